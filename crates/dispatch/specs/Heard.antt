@@ -1,0 +1,50 @@
+-- What an answer of this crate says, in document 01's numbers and values. Assumes nothing.
+use Prim.Native.Nat.{ℕ}
+use Rattle.table.specs.Said.{saidOf}
+use Rattle.table.specs.Said as table
+use Rattle.machine.specs.Reply.{runs, idle, Said, refused, wentOn, finished, TORN, BACK, END, NOBODY, ACTIVE, EARLY, HELD}
+use Rattle.machine.specs.Reply as reply
+use Rattle.dispatch.specs.declared.State.{State}
+use Rattle.dispatch.specs.declared.Turn.{Turn}
+use Rattle.dispatch.specs.declared.Turn.the-variants.{Runs, Idle}
+use Rattle.dispatch.specs.declared.Refusal.{Refusal}
+use Rattle.dispatch.specs.declared.Refusal.the-variants.{Torn, Back, End, Nobody, Active, Early, Held}
+use Rattle.dispatch.specs.declared.Reply.{Reply}
+use Rattle.dispatch.specs.declared.Reply.the-variants.{Refused, WentOn, Finished}
+use Rattle.dispatch.specs.declared.Answer.{Answer}
+use Rattle.dispatch.specs.declared.Started.{Started}
+
+-- The number of each refusal.
+abbrev pub numberOf : Refusal → ℕ
+numberOf Torn = TORN
+numberOf Back = BACK
+numberOf End = END
+numberOf Nobody = NOBODY
+numberOf Active = ACTIVE
+numberOf Early = EARLY
+numberOf Held = HELD
+
+abbrev pub turnSaid : Turn → reply.Turn
+turnSaid (Runs i deadline) = runs i deadline
+turnSaid Idle = idle
+
+abbrev pub replySaid : Reply → Said
+replySaid (Refused refusal) = refused (numberOf refusal)
+replySaid (WentOn turn) = wentOn (turnSaid turn)
+replySaid (Finished late turn) = finished late (turnSaid turn)
+
+-- The state that an event hands back, and what it says.
+pub record Heard : Type 0 where
+  pub state : State
+  pub said : Said
+
+abbrev pub heardOf : Answer → Heard
+heardOf answer = record { state = answer .state; said = replySaid (answer .reply) }
+
+-- The state that a start hands back, and what the check says.
+pub record Begun : Type 0 where
+  pub state : State
+  pub said : table.Said
+
+abbrev pub begunOf : Started → Begun
+begunOf started = record { state = started .state; said = saidOf (started .finding) }

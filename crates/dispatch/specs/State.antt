@@ -1,0 +1,30 @@
+-- A state's table. Assumes nothing.
+use Prim.Native.Nat.{ℕ}
+use mathlib.Core.List.{List, []}
+use lib.ListN.{take, replicate}
+use Rattle.table.specs.Limits.{room}
+use Rattle.table.specs.Table.{Table, noTable}
+use Rattle.table.specs.Check.{Checked, sound, refused, checkOf}
+use Rattle.table.specs.Map.{padded}
+use Rattle.machine.specs.Machine.{fresh}
+use Rattle.dispatch.specs.declared.State.{State}
+
+-- The words of a state's table: as many of its words as its length says.
+abbrev pub wordsIn : State → List ℕ
+wordsIn s = take (s .length) (s .words)
+
+-- The table that a checked list is; a refused one is none.
+abbrev pub tableFrom : Checked → Table
+tableFrom (sound t) = t
+tableFrom (refused number place) = noTable
+
+unfoldable pub tableIn : State → Table
+tableIn s = tableFrom (checkOf (wordsIn s))
+
+-- A fresh state over a list of words; the room behind them is 0.
+unfoldable pub freshState : List ℕ → ℕ → State
+freshState ws n = record { words = padded room ws; length = n; now = fresh }
+
+-- "a state whose numbers are all zero"
+unfoldable pub zeroState : State
+zeroState = record { words = replicate room 0; length = 0; now = fresh }

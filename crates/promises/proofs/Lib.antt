@@ -1,0 +1,3 @@
+pub mod Mornings
+pub mod Meaning
+pub mod Pinned

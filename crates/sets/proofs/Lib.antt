@@ -1,0 +1,7 @@
+pub mod Digit
+pub mod Change
+pub mod Operator
+pub mod Trailing
+pub mod Count
+pub mod Visit
+pub mod Example

@@ -1,0 +1,159 @@
+//! Refusals 1 to 5: every ground, its place, and which goes first.
+
+mod common;
+
+use common::{table_a_with, TABLE_A};
+use reference::limits::{COUNT, NEST, RANGE, SHORT, STEP};
+use reference::{check, Refusal, Step};
+
+fn refused(words: &[u32], number: u32, place: usize) {
+    assert_eq!(check(words), Err(Refusal { number, place }), "{words:?}");
+}
+
+/// One task with T 10, D 10, C 8 and these steps; m is 6.
+fn plan(steps: &[[u32; 3]]) -> Vec<u32> {
+    let mut words = vec![1, 6, 10, 10, 8, steps.len() as u32];
+    words.extend(steps.iter().flatten());
+    words
+}
+
+/// The index of the first word of a step of `plan`.
+fn place(step: usize) -> usize {
+    6 + 3 * step
+}
+
+const UNLOCK: [u32; 3] = [2, 0, 0];
+
+#[test]
+fn table_a_is_taken_apart() {
+    let table = check(&TABLE_A).expect("table A is sound");
+    assert_eq!(table.resources, 1);
+    assert_eq!(table.tasks.len(), 3);
+    assert_eq!(table.tasks[2].deadline, 30);
+    assert!(matches!(table.tasks[2].steps[0], Step::Lock(s) if s.length == 4));
+    assert_eq!(table.floor(0), Some(20));
+    assert_eq!(table.floor(1), None);
+}
+
+#[test]
+fn short_when_a_wanted_word_is_not_there() {
+    // Wherever table A is cut, the place is the list's length; a step's words are asked for together.
+    for length in 0..TABLE_A.len() {
+        refused(&TABLE_A[..length], SHORT, length);
+    }
+}
+
+#[test]
+fn short_when_words_remain() {
+    let mut words = TABLE_A.to_vec();
+    words.push(7);
+    refused(&words, SHORT, 26);
+    words.extend([8, 9]);
+    refused(&words, SHORT, 26);
+}
+
+#[test]
+fn a_step_is_asked_for_whole_before_it_is_judged() {
+    // Kind 9 is wrong, but the step's third word isn't there.
+    refused(&[1, 1, 10, 10, 5, 1, 9, 0], SHORT, 8);
+    refused(&[1, 1, 10, 10, 5, 1, 9, 0, 0], STEP, 6);
+}
+
+#[test]
+fn count() {
+    refused(&[0, 0], COUNT, 0);
+    refused(&[17, 0], COUNT, 0);
+    refused(&[u32::MAX], COUNT, 0);
+    refused(&[1, 17], COUNT, 1);
+    refused(&[1, 0, 5, 5, 5, 17], COUNT, 5);
+    assert!(check(&[1, 16, 5, 5, 5, 0]).is_ok());
+    assert!(check(&[1, 0, 5, 5, 5, 0]).is_ok());
+    let mut sixteen = vec![16, 0];
+    sixteen.extend([1, 1, 1, 0].repeat(16));
+    assert!(check(&sixteen).is_ok());
+}
+
+#[test]
+fn range() {
+    for at in 2..5 {
+        for word in [0, 1_000_001, u32::MAX] {
+            refused(&table_a_with(at, word), RANGE, at);
+        }
+    }
+    assert!(check(&[1, 0, 1_000_000, 1_000_000, 1_000_000, 0]).is_ok());
+    assert!(check(&[1, 0, 1, 1, 1, 0]).is_ok());
+}
+
+#[test]
+fn step() {
+    for bad in [
+        [0, 0, 0],
+        [3, 0, 1],
+        [u32::MAX, 0, 1],
+        // An unlock with a word that isn't 0.
+        [2, 1, 0],
+        [2, 0, 1],
+        // A lock's resource not below m, its length below 1, above C.
+        [1, 6, 1],
+        [1, 0, 0],
+        [1, 0, 9],
+    ] {
+        refused(&plan(&[bad]), STEP, place(0));
+    }
+    assert!(check(&plan(&[[1, 5, 8], UNLOCK])).is_ok());
+    // 4 goes before 5: this unlock has nothing to unlock either.
+    refused(&plan(&[[2, 0, 7]]), STEP, place(0));
+}
+
+#[test]
+fn nest() {
+    // Unlock with nothing held.
+    refused(&plan(&[UNLOCK]), NEST, place(0));
+    refused(&plan(&[[1, 0, 3], UNLOCK, UNLOCK]), NEST, place(2));
+    // Lock of a resource already held by the plan.
+    refused(&plan(&[[1, 0, 3], [1, 0, 3]]), NEST, place(1));
+    refused(&plan(&[[1, 0, 3], [1, 1, 3], [1, 0, 1]]), NEST, place(2));
+    // A fifth held section.
+    let five = [[1, 0, 3], [1, 1, 3], [1, 2, 3], [1, 3, 3], [1, 4, 3]];
+    refused(&plan(&five), NEST, place(4));
+    // An inner length above that of the section right around it.
+    refused(&plan(&[[1, 0, 3], [1, 1, 4]]), NEST, place(1));
+    refused(&plan(&[[1, 0, 8], [1, 1, 3], [1, 2, 4]]), NEST, place(2));
+    // A plan that ends holding something: the index after its last word.
+    refused(&plan(&[[1, 0, 3]]), NEST, place(1));
+    refused(&plan(&[[1, 0, 3], [1, 1, 3], UNLOCK]), NEST, place(3));
+    // It is judged before the next word is asked for.
+    let mut more = plan(&[[1, 0, 3]]);
+    more[0] = 2;
+    refused(&more, NEST, place(1));
+    more.push(0);
+    refused(&more, NEST, place(1));
+}
+
+#[test]
+fn sections_that_are_allowed() {
+    // Four held at once, the same length inside, and a resource locked again after its unlock.
+    let four = [[1, 0, 3], [1, 1, 3], [1, 2, 3], [1, 3, 3]];
+    let mut steps = four.to_vec();
+    steps.extend([UNLOCK; 4]);
+    steps.extend([[1, 0, 8], UNLOCK]);
+    assert!(check(&plan(&steps)).is_ok());
+    // A longer section is measured against the one right around it, not against one that was unlocked.
+    let steps = [[1, 0, 8], [1, 1, 2], UNLOCK, [1, 1, 8], UNLOCK, UNLOCK];
+    assert!(check(&plan(&steps)).is_ok());
+}
+
+#[test]
+fn the_longest_table_and_one_word_more() {
+    let mut words = vec![16, 16];
+    for _ in 0..16 {
+        words.extend([1_000_000, 1_000_000, 1_000_000, 16]);
+        words.extend([1, 15, 1_000_000, 2, 0, 0].repeat(8));
+    }
+    assert_eq!(words.len(), 834);
+    assert!(check(&words).is_ok());
+    words.push(0);
+    refused(&words, SHORT, 834);
+    words.extend([1; 5000]);
+    refused(&words, SHORT, 834);
+}
