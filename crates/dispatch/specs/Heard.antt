@@ -4,6 +4,7 @@ use Rattle.table.specs.Said.{saidOf}
 use Rattle.table.specs.Said as table
 use Rattle.machine.specs.Reply.{runs, idle, Said, refused, wentOn, finished, TORN, BACK, END, NOBODY, ACTIVE, EARLY, HELD}
 use Rattle.machine.specs.Reply as reply
+use Rattle.machine.specs.Machine as machine
 use Rattle.dispatch.specs.declared.State.{State}
 use Rattle.dispatch.specs.declared.Turn.{Turn}
 use Rattle.dispatch.specs.declared.Turn.the-variants.{Runs, Idle}
@@ -12,6 +13,7 @@ use Rattle.dispatch.specs.declared.Refusal.the-variants.{Torn, Back, End
 use Rattle.dispatch.specs.declared.Reply.{Reply}
 use Rattle.dispatch.specs.declared.Reply.the-variants.{Refused, WentOn, Finished}
 use Rattle.dispatch.specs.declared.Answer.{Answer}
+use Rattle.dispatch.specs.declared.Outcome.{Outcome}
 use Rattle.dispatch.specs.declared.Started.{Started}
 
 -- The number of each refusal.
@@ -40,6 +42,10 @@ pub record Heard : Type 0 where
 
 abbrev pub heardOf : Answer → Heard
 heardOf answer = record { state = answer .state; said = replySaid (answer .reply) }
+
+-- What is kept after an event and what it says, as the machine has them.
+abbrev pub outcomeOf : Outcome → machine.Outcome
+outcomeOf out = record { now = out .now; said = replySaid (out .reply) }
 
 -- The state that a start hands back, and what the check says.
 pub record Begun : Type 0 where

@@ -3,3 +3,5 @@ pub mod State
 pub mod Torn
 pub mod Heard
 pub mod Dispatch
+pub mod Parts
+pub mod Away

@@ -1,13 +1,18 @@
 -- A state's table. Assumes nothing.
 use Prim.Native.Nat.{ℕ}
-use mathlib.Core.List.{List, []}
+use mathlib.Core.List.{List}
 use lib.ListN.{take, replicate}
 use Rattle.table.specs.Limits.{room}
 use Rattle.table.specs.Table.{Table, noTable}
 use Rattle.table.specs.Check.{Checked, sound, refused, checkOf}
 use Rattle.table.specs.Map.{padded}
 use Rattle.machine.specs.Machine.{fresh}
+use Rattle.machine.specs.declared.Now.{Now}
 use Rattle.dispatch.specs.declared.State.{State}
+
+-- A state from its parts: its words, as many of them as are in use, and what is kept.
+abbrev pub stateOf : List ℕ → ℕ → Now → State
+stateOf words length now = record { words = words; length = length; now = now }
 
 -- The words of a state's table: as many of its words as its length says.
 abbrev pub wordsIn : State → List ℕ

@@ -1,7 +1,6 @@
 -- "A state is torn exactly when .." (document 01, "When an event is turned away"), ground by ground, in its order. Assumes nothing.
-use Prim.Native.Nat.{ℕ, _^_}
+use Prim.Native.Nat.{ℕ}
 use mathlib.Core.Bool.{Bool, true, false, _&&_, _||_}
-use mathlib.Core.List.{List}
 use lib.Dec.{ltb, leb, eqb}
 use lib.ListN.{length, getD}
 use Rattle.sets.specs.Member.{width, has}

@@ -1,6 +1,18 @@
 // The dispatcher of document 01: a state made from a checked table, and two events on it, each answered with who runs.
+mod change; // change.rt: what an accepted event does to what is kept
+pub mod event; // event.rt: an event on a state's parts, TORN included
+mod release; // release.rt: a release, from BACK on
+mod said; // said.rt: what an event answers
+mod start; // start.rt: the states that a start makes
+mod step; // step.rt: a step, from BACK on
+mod torn; // torn.rt: the grounds of TORN
+
+ghost use mathlib.Core.Path.{_≡_};
+ghost use Rattle.dispatch.specs.Heard.{heardOf, outcomeOf, begunOf};
+ghost use Rattle.dispatch.specs.Dispatch.{startOf, releaseOf, stepOf, after};
 use machine::Now;
 use table::Finding;
+use table::Map;
 
 // The words of a table, with their length, and what is kept.
 pub struct State {
@@ -39,8 +51,74 @@ pub struct Answer {
     pub reply: Reply,
 }
 
+// What is kept after an event, and the reply. The words stay with the caller.
+pub struct Outcome {
+    pub now: Now,
+    pub reply: Reply,
+}
+
 // What a start answers: the check's finding, and the state.
 pub struct Started {
     pub finding: Finding,
     pub state: State,
+}
+
+// What the test of TORN learns: whether the state is torn, and where its tasks start.
+struct Tested {
+    torn: bool,
+    map: Map,
+}
+
+impl State {
+    // "a start that makes a state from a checked table": "A refused start gives the number, the place and a state whose numbers are all zero."
+    pub fn start(words: &[u32]) -> Started
+        ensures { λ r. ⌜ begunOf r ≡ startOf (now (words .entry)) ⌝ }
+    {
+        let finding = table::check::check(words);
+        let Finding::Sound = finding else {
+            return Started {
+                finding,
+                state: start::zero(),
+            };
+        };
+        Started {
+            finding: Finding::Sound,
+            state: start::fresh(words),
+        }
+    }
+
+    // A release of a task at a time.
+    pub fn release(self, task: u32, time: u64) -> Answer
+        ensures { λ r. ⌜ heardOf r ≡ releaseOf self task time ⌝ }
+    {
+        let kept = self.now;
+        let outcome = event::release(&self.words, self.length, kept, task, time);
+        self.answered(outcome)
+    }
+
+    // The running job's next step at a time.
+    pub fn step(self, time: u64) -> Answer
+        ensures { λ r. ⌜ heardOf r ≡ stepOf self time ⌝ }
+    {
+        let kept = self.now;
+        let outcome = event::step(&self.words, self.length, kept, time);
+        self.answered(outcome)
+    }
+
+    // The state with what is kept after an event; its words stay.
+    fn answered(self, outcome: Outcome) -> Answer
+        ensures { λ r. ⌜ heardOf r ≡ after self (outcomeOf outcome) ⌝ }
+    {
+        let words = self.words;
+        let now = outcome.now;
+        let reply = outcome.reply;
+        Answer {
+            state: State {
+                words,
+                length: self.length,
+                now,
+            },
+            reply,
+        }
+    }
 }

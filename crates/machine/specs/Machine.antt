@@ -9,7 +9,7 @@ use lib.ListN.{length, getD, set, replicate}
 use Rattle.sets.specs.Member.{width, has, withOf, withoutOf}
 use Rattle.table.specs.Any.{anyBelow}
 use Rattle.table.specs.Limits.{mostTasks, mostHeld, endOfTime}
-use Rattle.table.specs.Table.{Step, Table, tasksOf, taskOf}
+use Rattle.table.specs.Table.{Table, tasksOf, taskOf}
 use Rattle.table.specs.Held.{Section, heldBy, holds}
 use Rattle.table.specs.Floor.{floorOf}
 use Rattle.table.specs.Map.{nextOf}

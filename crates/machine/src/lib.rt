@@ -1,4 +1,7 @@
 // The machine of document 01, "The machine's rules": what is kept of a job and of the whole, and who runs.
+ghost use mathlib.Core.Path.{_≡_};
+ghost use Rattle.machine.specs.Order.{whoRuns};
+ghost use Rattle.machine.specs.Leader.{aheadOf, betterOf};
 
 // What is kept for a task: its job's numbers, all zero where it has none, and the task's last accepted release.
 pub struct Job {
@@ -23,4 +26,64 @@ pub struct Now {
 pub enum Who {
     Runs(u32),
     Nobody,
+}
+
+// The best row so far, with its two numbers, so that no row is read twice.
+struct Leader {
+    who: Who,
+    active: u64,
+    number: u64,
+}
+
+// Whether x is before y: "the earliest active deadline. Among equals it is the one whose release was accepted first".
+fn ahead(x: Leader, y: Leader) -> bool
+    ensures { λ r. ⌜ r ≡ aheadOf x y ⌝ }
+{
+    if x.active < y.active {
+        return true;
+    }
+    if x.active == y.active {
+        return x.number < y.number;
+    }
+    false
+}
+
+// The better of the best so far and of the next row, which has to be ready.
+fn better(best: Leader, ready: bool, next: Leader) -> Leader
+    ensures { λ r. ⌜ r ≡ betterOf best ready next ⌝ }
+{
+    if !ready {
+        return best;
+    }
+    let who = best.who;
+    let Who::Runs(_) = who else {
+        return next;
+    };
+    if ahead(next, best) {
+        return next;
+    }
+    best
+}
+
+// "The running job is the ready one with the earliest active deadline."
+pub fn who_runs(now: Now) -> Who
+    ensures { λ r. ⌜ r ≡ whoRuns now ⌝ }
+{
+    let mut best = Leader {
+        who: Who::Nobody,
+        active: 0,
+        number: 0,
+    };
+    let mut i: u32 = 0;
+    while i < 16 {
+        let row = now.rows[i as usize];
+        let next = Leader {
+            who: Who::Runs(i),
+            active: row.active,
+            number: row.number,
+        };
+        best = better(best, sets::has(now.ready, i), next);
+        i += 1;
+    }
+    best.who
 }

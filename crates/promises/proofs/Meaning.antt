@@ -1,6 +1,6 @@
 -- The definitions that give document 01's number and values for an enum lose nothing: each has a way back. Assumes nothing.
 use Prim.Native.Nat.{ℕ}
-use mathlib.Core.Path.{_≡_, refl, ap, sym, _∙_}
+use mathlib.Core.Path.{_≡_, refl, ap}
 use mathlib.Core.Bool.{cond}
 use lib.Dec.{eqb}
 use Rattle.table.specs.Said.{saidOf, passes, says}
@@ -13,7 +13,10 @@ use Rattle.verdict.specs.Verdict as verdict
 use Rattle.verdict.specs.Said.{verdictSaid}
 use Rattle.verdict.specs.declared.Verdict.{Verdict}
 use Rattle.verdict.specs.declared.Verdict.the-variants.{Refused as RefusedAs, Fits, Late, Heavy, Long}
-use Rattle.dispatch.specs.Heard.{Heard, Begun, numberOf, turnSaid, replySaid, heardOf, begunOf}
+use Rattle.dispatch.specs.Heard.{Heard, Begun, numberOf, turnSaid, replySaid, outcomeOf, heardOf, begunOf}
+use Rattle.dispatch.specs.Dispatch.{after}
+use Rattle.dispatch.specs.declared.Outcome.{Outcome}
+use Rattle.dispatch.specs.declared.State.{State}
 use Rattle.dispatch.specs.declared.Turn.{Turn}
 use Rattle.dispatch.specs.declared.Turn.the-variants.{Runs, Idle}
 use Rattle.dispatch.specs.declared.Refusal.{Refusal}
@@ -82,6 +85,13 @@ reply-back : (r : Reply) → replyOf (replySaid r) ≡ r
 reply-back (Refused refusal) = ap Refused (refusal-back refusal)
 reply-back (WentOn turn) = ap WentOn (turn-back turn)
 reply-back (Finished late turn) = ap (Finished late) (turn-back turn)
+
+-- What is kept after an event on a state's parts, with its reply.
+abbrev pub partsOf : Heard → Outcome
+partsOf heard = record { now = heard .state .now; reply = replyOf (heard .said) }
+
+pub parts-back : (s : State) (r : Outcome) → partsOf (after s (outcomeOf r)) ≡ r
+parts-back s r = λ i. record { now = r .now; reply = reply-back (r .reply) i }
 
 -- An answer with its state.
 abbrev pub answerOf : Heard → Answer

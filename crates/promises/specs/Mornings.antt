@@ -1,6 +1,6 @@
 -- M1 to M12 of document 01, one below the other, to be held beside "Two mornings at the chair" line by line. That they hold is one theorem,
 -- `mornings-hold`. Assumes nothing.
-use Prim.Native.Nat.{ℕ}
+use Prim.Native.Nat.{ℕ, _<_}
 use mathlib.Core.Path.{_≡_}
 use mathlib.Core.List.{List, [], _∷_, _++_}
 use Rattle.table.specs.Table.{Table, tasksOf, taskOf}
@@ -8,7 +8,7 @@ use Rattle.table.specs.Check.{checkOf, sound, SHORT, COUNT}
 use Rattle.table.specs.Said as table
 use Rattle.machine.specs.Reply.{wentOn, finished, runs, idle}
 use Rattle.verdict.specs.Verdict.{verdictOf, says, FITS, LATE, HEAVY, LONG}
-use Rattle.promises.specs.Run.{Event, release, step}
+use Rattle.promises.specs.Run.{release, step}
 use Rattle.promises.specs.Morning.{Line, _answers_, minus, Morning, run, checked, judged, every}
 
 -- Table A with D of task 0 and task 2's length: `3 1 / 20 10 3 0 / 30 20 9 2 1 0 1 2 0 0 / 40 30 10 2 1 0 4 2 0 0`, whose D is 10 and length 4.
@@ -77,9 +77,9 @@ abbrev pub m9 : Morning
 m9 = every ((ws : List ℕ) (t : Table) → checkOf ws ≡ sound t → tasksOf t ≡ 1 → taskOf t 0 .T ≡ 1_000_000 →
     verdictOf ws ≡ says LONG 0 → ⊥)
 
--- "with a second period of 3 it is": every table of two tasks with these T
+-- "with a second period of 3 it is": every table with a period of 1,000,000 and one of 3, whatever else it has
 abbrev pub m10 : Morning
-m10 = every ((ws : List ℕ) (t : Table) → checkOf ws ≡ sound t → tasksOf t ≡ 2 → taskOf t 0 .T ≡ 1_000_000 → taskOf t 1 .T ≡ 3 →
+m10 = every ((ws : List ℕ) (t : Table) (i j : ℕ) → checkOf ws ≡ sound t → i < tasksOf t → j < tasksOf t → taskOf t i .T ≡ 1_000_000 → taskOf t j .T ≡ 3 →
     verdictOf ws ≡ says LONG 0)
 
 -- "an empty list: SHORT at 0"

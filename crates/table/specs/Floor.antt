@@ -1,6 +1,6 @@
 -- The users of a resource and its floor (document 01, "The words of a table" and "The machine's rules"). Assumes nothing.
-use Prim.Native.Nat.{ℕ, suc, _+_, min}
-use mathlib.Core.Bool.{Bool, true, false, cond, _||_}
+use Prim.Native.Nat.{ℕ, suc, min}
+use mathlib.Core.Bool.{Bool, false, cond, _||_}
 use mathlib.Core.List.{List, [], _∷_}
 use lib.Dec.{eqb}
 use Rattle.sets.specs.Member.{width, withOf}

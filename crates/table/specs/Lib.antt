@@ -3,8 +3,11 @@ pub mod Limits
 pub mod Any
 pub mod Table
 pub mod Check
+pub mod Words
 pub mod Held
 pub mod Valid
 pub mod Floor
 pub mod Map
+pub mod Innermost
 pub mod Said
+pub mod Walk

@@ -2,12 +2,10 @@
 -- made-up ones included: what it reads is `tableAt`, and for the map of a sound list that is the table itself (law `table-at`).
 -- Assumes nothing.
 use Prim.Native.Nat.{ℕ, zero, suc, _+_, _*_, min}
-use mathlib.Core.Bool.{Bool, true, false, cond}
 use mathlib.Core.List.{List, [], _∷_}
-use lib.Dec.{ltb, eqb}
-use lib.ListN.{length, getD, replicate}
+use lib.ListN.{getD}
 use Rattle.table.specs.Limits.{mostTasks, mostSteps}
-use Rattle.table.specs.Table.{Step, lock, unlock, Task, Table, tasksOf, taskOf}
+use Rattle.table.specs.Table.{Step, lock, unlock, Task, Table, tasksOf}
 use Rattle.table.specs.Check.{stepSaid, Checked, sound, refused, checkOf}
 use Rattle.table.specs.declared.Map.{Map}
 use Rattle.table.specs.declared.Next.{Next}

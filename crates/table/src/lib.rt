@@ -1,4 +1,6 @@
 // Document 01's tables: the check of a list of words, and readers that answer from the words what the table says.
+pub mod check;
+pub mod limits;
 
 // What the check finds: sound, or the refusal that document 01 names, with its place (a word index).
 pub enum Finding {

@@ -2,5 +2,7 @@
 pub mod Demand
 pub mod Blocking
 pub mod Multiple
+pub mod Floors
+pub mod Times
 pub mod Verdict
 pub mod Said

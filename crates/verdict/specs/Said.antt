@@ -1,5 +1,4 @@
 -- What an answer of this crate says: the check's number and place, or document 01's number with its value. Assumes nothing.
-use Prim.Native.Nat.{ℕ}
 use Rattle.table.specs.Said.{saidOf, passes}
 use Rattle.table.specs.Said as table
 use Rattle.verdict.specs.Verdict.{Said, says, FITS, LATE, HEAVY, LONG}

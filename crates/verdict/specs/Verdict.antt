@@ -2,7 +2,7 @@
 -- `Judged` says what an answer means, for every t without end. The theorems: `verdictOf` is judged so, and two answers judged so are equal. Assumes nothing.
 use Prim.Native.Nat.{ℕ, zero, suc, _+_, _*_, _/_, _≤_, _<_, max}
 use mathlib.Core.Path.{_≡_}
-use mathlib.Core.Bool.{Bool, true, false, cond}
+use mathlib.Core.Bool.{Bool, true, false}
 use mathlib.Core.List.{List, [], _∷_}
 use lib.Dec.{ltb}
 use Rattle.table.specs.Limits.{mostMultiple}

@@ -1,0 +1,52 @@
+//! The archive's functions, as `include/lawqendo.h` declares them. The only unsafe code of this package.
+
+use crate::answers::{Answer, ANSWER};
+use crate::calls::Calls;
+use crate::image::{Image, NUMBERS};
+
+extern "C" {
+    fn lawqendo_check(words: *const u32, count: usize, answer: *mut [u64; ANSWER]) -> u64;
+    fn lawqendo_start(
+        words: *const u32,
+        count: usize,
+        image: *mut [u64; NUMBERS],
+        answer: *mut [u64; ANSWER],
+    ) -> u64;
+    fn lawqendo_release(
+        image: *mut [u64; NUMBERS],
+        task: u32,
+        time: u64,
+        answer: *mut [u64; ANSWER],
+    ) -> u64;
+    fn lawqendo_step(image: *mut [u64; NUMBERS], time: u64, answer: *mut [u64; ANSWER]) -> u64;
+    fn lawqendo_verdict(words: *const u32, count: usize, answer: *mut [u64; ANSWER]) -> u64;
+}
+
+/// The linked archive.
+///
+/// Safety, for each call: the words are lent as a pointer to the first and how many there are, the image and the answer as
+/// pointers to arrays of the header's lengths. The references that they are made from outlive the call, which keeps nothing,
+/// and every value of every number is allowed.
+pub struct Archive;
+
+impl Calls for Archive {
+    fn check(&self, words: &[u32], answer: &mut Answer) -> u64 {
+        unsafe { lawqendo_check(words.as_ptr(), words.len(), answer) }
+    }
+
+    fn start(&self, words: &[u32], image: &mut Image, answer: &mut Answer) -> u64 {
+        unsafe { lawqendo_start(words.as_ptr(), words.len(), image, answer) }
+    }
+
+    fn release(&self, image: &mut Image, task: u32, time: u64, answer: &mut Answer) -> u64 {
+        unsafe { lawqendo_release(image, task, time, answer) }
+    }
+
+    fn step(&self, image: &mut Image, time: u64, answer: &mut Answer) -> u64 {
+        unsafe { lawqendo_step(image, time, answer) }
+    }
+
+    fn verdict(&self, words: &[u32], answer: &mut Answer) -> u64 {
+        unsafe { lawqendo_verdict(words.as_ptr(), words.len(), answer) }
+    }
+}

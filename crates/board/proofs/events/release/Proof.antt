@@ -1,0 +1,68 @@
+-- `board::events::release` meets its contract: what `dispatch` promises of the parts that were read, through the image (`event-left`).
+-- Assumes nothing.
+use mathlib.Core.Path.{_≡_, subst}
+use Rattle.dispatch.specs.Heard.{outcomeOf}
+use Rattle.dispatch.specs.Dispatch.{releaseOf, after}
+use Rattle.dispatch.specs.declared.State.{State}
+use Rattle.board.specs.Image.{decode, Whole}
+use Rattle.board.specs.Calls.{releaseImage, releaseAnswer}
+use Rattle.board.proofs.Typed.{words-half-of, outcome-whole}
+use Rattle.board.proofs.Heard.{release-kept, decoded-parts, event-left}
+use borrow.Author.Needs.{needs}
+use Rattle.board.proofs.events.release.Statement.{statement}
+use Rattle.board.proofs.events.release.Tie as tie
+
+words-of-requires : tie.Need-words-of-requires
+words-of-requires c κs = search needs
+
+slice-read-used : tie.Need-slice-read-used
+slice-read-used c = search needs
+
+now-of-requires : tie.Need-now-of-requires
+now-of-requires c κs = search needs
+
+release-requires : tie.Need-release-requires
+release-requires c κs = search needs
+
+keep-requires : tie.Need-keep-requires
+keep-requires c κs = search needs
+
+of-reply-requires : tie.Need-of-reply-requires
+of-reply-requires c κs = search needs
+
+same-length : tie.Need-same-length
+same-length c = search needs
+
+returns : tie.Need-returns
+unfolding releaseImage releaseAnswer
+returns c =
+    let start = c .before .before .before .before .before .before .before .before .before .before .before .before .before .before in
+    let image = start .args .image .now in
+    let task = start .args .task in
+    let time = start .args .time in
+    let words = c .before .before .before .before .before .before .before .before .before .before .before .words-of in
+    let kept = c .before .before .before .before .before .before .before .before .now-of in
+    let heard = c .before .before .before .before .before .before .release in
+    let parts = decoded-parts image (words .result) (kept .result) (words .ensures) (kept .ensures) in
+    let same = subst (λ (s : State). after s (outcomeOf (heard .result)) ≡ releaseOf s task time) parts (heard .ensures) in
+    let whole = subst (λ (s : State). Whole (after s (outcomeOf (heard .result)) .state)) parts (outcome-whole (words .result) _ (heard .result) _ (words .ok .1 .0 .1) (words-half-of (words .result) (words .ok .0) (words .ok .1 .1)) (heard .ok)) in
+    let left = event-left image _ _ (heard .result) (releaseOf (decode image) task time) (start .pre) same (release-kept (decode image) task time) whole
+    (c .before .before .before .keep .ensures) (c .of-reply .ensures) in
+    record {
+      image-is = left .0;
+      answer-is = left .1;
+      state-is = left .2;
+    }
+
+pub release-spec : {M : Type 1} → statement M
+release-spec =
+    tie.close
+    (tie.spec
+    words-of-requires
+    slice-read-used
+    now-of-requires
+    release-requires
+    keep-requires
+    of-reply-requires
+    same-length
+    returns)

@@ -1,0 +1,3 @@
+-- Laws of playing a line.
+pub mod Told
+pub mod Plays
