@@ -69,7 +69,7 @@ enum {
     LAWQENDO_ACTIVE = 10,  /* a release: the task's job is still ready */
     LAWQENDO_EARLY = 11,   /* a release: less than T after the task's last accepted release */
     LAWQENDO_HELD = 12,    /* a step: it locks what another ready job holds; never from a fresh start */
-    LAWQENDO_FITS = 20,    /* the verdict: every deadline is met */
+    LAWQENDO_FITS = 20,    /* the verdict: demand and blocking stay within t, for every t without end */
     LAWQENDO_LATE = 21,    /* the least t whose demand and blocking are above t stands in the answer */
     LAWQENDO_HEAVY = 22,   /* more work than time */
     LAWQENDO_LONG = 23,    /* the common multiple of the periods is above 1,000,000: left open */

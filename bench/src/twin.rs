@@ -4,7 +4,7 @@
 //! compared with the second program as the archive is (tests/twin.rs), so that what it is fast at is the right thing.
 
 use board_tests::answers::{Answer, ACCEPTED, FINISHED};
-use board_tests::calls::Calls;
+use board_tests::calls::{Calls, Event};
 use board_tests::image::{at, Image, ACTIVE, BASE, CLOCK, COUNT, FIRST_ROW, HAD, LAST, LENGTH};
 use board_tests::image::{NUMBER, NUMBERS, PACKED, PLACE, READY, ROW, SAVED};
 use reference::limits::{self, COUNT_LIMIT, END_OF_TIME, ROOM, ROWS, STORED_TIME};
@@ -348,12 +348,11 @@ impl Calls for Twin {
         start(words, image, answer)
     }
 
-    fn release(&self, image: &mut Image, task: u32, time: u64, answer: &mut Answer) -> u64 {
-        release(image, task, time, answer)
-    }
-
-    fn step(&self, image: &mut Image, time: u64, answer: &mut Answer) -> u64 {
-        step(image, time, answer)
+    fn event(&self, image: &mut Image, event: Event, answer: &mut Answer) -> u64 {
+        match event {
+            Event::Release { task, time } => release(image, task, time, answer),
+            Event::Step { time } => step(image, time, answer),
+        }
     }
 
     fn verdict(&self, words: &[u32], answer: &mut Answer) -> u64 {

@@ -1,7 +1,7 @@
 //! The archive's functions, as `include/lawqendo.h` declares them. The only unsafe code of this package.
 
 use crate::answers::{Answer, ANSWER};
-use crate::calls::Calls;
+use crate::calls::{Calls, Event};
 use crate::image::{Image, NUMBERS};
 
 extern "C" {
@@ -38,12 +38,11 @@ impl Calls for Archive {
         unsafe { lawqendo_start(words.as_ptr(), words.len(), image, answer) }
     }
 
-    fn release(&self, image: &mut Image, task: u32, time: u64, answer: &mut Answer) -> u64 {
-        unsafe { lawqendo_release(image, task, time, answer) }
-    }
-
-    fn step(&self, image: &mut Image, time: u64, answer: &mut Answer) -> u64 {
-        unsafe { lawqendo_step(image, time, answer) }
+    fn event(&self, image: &mut Image, event: Event, answer: &mut Answer) -> u64 {
+        match event {
+            Event::Release { task, time } => unsafe { lawqendo_release(image, task, time, answer) },
+            Event::Step { time } => unsafe { lawqendo_step(image, time, answer) },
+        }
     }
 
     fn verdict(&self, words: &[u32], answer: &mut Answer) -> u64 {

@@ -16,16 +16,8 @@ pub enum Event {
 pub trait Calls {
     fn check(&self, words: &[u32], answer: &mut Answer) -> u64;
     fn start(&self, words: &[u32], image: &mut Image, answer: &mut Answer) -> u64;
-    fn release(&self, image: &mut Image, task: u32, time: u64, answer: &mut Answer) -> u64;
-    fn step(&self, image: &mut Image, time: u64, answer: &mut Answer) -> u64;
+    fn event(&self, image: &mut Image, event: Event, answer: &mut Answer) -> u64;
     fn verdict(&self, words: &[u32], answer: &mut Answer) -> u64;
-
-    fn event(&self, image: &mut Image, event: Event, answer: &mut Answer) -> u64 {
-        match event {
-            Event::Release { task, time } => self.release(image, task, time, answer),
-            Event::Step { time } => self.step(image, time, answer),
-        }
-    }
 }
 
 /// What the second program makes of an event: the state and the reply.
@@ -50,14 +42,6 @@ impl Calls for Second {
         *image = encode(&state);
         *answer = answers::of_check(&found);
         answer[0]
-    }
-
-    fn release(&self, image: &mut Image, task: u32, time: u64, answer: &mut Answer) -> u64 {
-        self.event(image, Event::Release { task, time }, answer)
-    }
-
-    fn step(&self, image: &mut Image, time: u64, answer: &mut Answer) -> u64 {
-        self.event(image, Event::Step { time }, answer)
     }
 
     fn verdict(&self, words: &[u32], answer: &mut Answer) -> u64 {

@@ -192,8 +192,7 @@ impl<'a, C: Calls> Comparison<'a, C> {
         if !outcome.fenced {
             text.push_str("  the call wrote beside the image or the answer\n");
         }
-        for index in 0..NUMBERS {
-            let (ours, theirs) = (wanted_image[index], outcome.image[index]);
+        for (index, (ours, theirs)) in wanted_image.iter().zip(&outcome.image).enumerate() {
             if ours != theirs {
                 text.push_str(&format!(
                     "  image[{index}] ({}): second program {ours}, archive {theirs}\n",

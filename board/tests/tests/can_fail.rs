@@ -33,14 +33,6 @@ impl Calls for Slip {
         answer[0]
     }
 
-    fn release(&self, image: &mut Image, task: u32, time: u64, answer: &mut Answer) -> u64 {
-        self.event(image, Event::Release { task, time }, answer)
-    }
-
-    fn step(&self, image: &mut Image, time: u64, answer: &mut Answer) -> u64 {
-        self.event(image, Event::Step { time }, answer)
-    }
-
     fn verdict(&self, words: &[u32], answer: &mut Answer) -> u64 {
         Second.verdict(words, answer);
         (self.verdict)(words, answer);
@@ -250,14 +242,6 @@ impl Calls for AtTheLimit {
 
     fn start(&self, words: &[u32], image: &mut Image, answer: &mut Answer) -> u64 {
         Second.start(words, image, answer)
-    }
-
-    fn release(&self, image: &mut Image, task: u32, time: u64, answer: &mut Answer) -> u64 {
-        self.event(image, Event::Release { task, time }, answer)
-    }
-
-    fn step(&self, image: &mut Image, time: u64, answer: &mut Answer) -> u64 {
-        self.event(image, Event::Step { time }, answer)
     }
 
     fn verdict(&self, words: &[u32], answer: &mut Answer) -> u64 {

@@ -118,7 +118,7 @@ fn m11() {
     assert_eq!(Archive.start(&TABLE_A[..25], &mut image, &mut answer), 1);
     assert_eq!(answer, [1, 25, 0, 0, 0]);
     assert_eq!(image, [0; NUMBERS]);
-    assert_eq!(Archive.step(&mut image, 0, &mut answer), 6);
+    assert_eq!(Archive.event(&mut image, step(0), &mut answer), 6);
     assert_eq!(answer, [6, 0, 0, 0, 0]);
     assert_eq!(image, [0; NUMBERS]);
 }

@@ -1,4 +1,4 @@
--- A signed number's two's complement, as `numbers::bits` works it out: one is added, the sum turned round and taken from the greatest number of 64 bits, and
+-- A signed number's two's complement, as `answer::bits` works it out: one is added, the sum turned round and taken from the greatest number of 64 bits, and
 -- no step leaves its range. Assumes nothing.
 use Prim.Native.Nat.{ℕ, zero, suc, _-_, _≤_}
 use mathlib.Core.Path.{_≡_, refl, sym, ap, _∙_, subst}

@@ -6,11 +6,12 @@ use mathlib.Core.List.{List, [], _∷_, _++_}
 use native.Mathlib.Omega.{arith}
 use lib.ListN.{length, getD, take, drop, replicate}
 use lib.Seq.{take-at, drop-append-add, getD-append-add}
-use Rattle.table.specs.Limits.{mostTasks}
+use Rattle.table.specs.Limits.{mostTasks, mostHeld}
 use Rattle.machine.specs.declared.Job.{Job}
 use Rattle.dispatch.specs.declared.State.{State}
 use Rattle.dispatch.specs.State.{zeroState}
-use Rattle.board.specs.Image.{lengthAt, clockAt, rowsAt, imageSize, low, high, pair, unpacked, packed, jobIn, jobsIn, decode, jobCells, rowCells, nowCells, encode, Each, Half, WholeJob, Whole}
+use Rattle.numbers.specs.Each.{Each}
+use Rattle.board.specs.Image.{lengthAt, readyAt, hadAt, rowsAt, imageSize, low, high, pair, unpacked, packed, jobIn, jobsIn, decode, jobCells, rowCells, keptCells, encode, Half, TypedJob, TypedState}
 
 -- Two words in one number, and out again.
 pub low-pair : (a b : ℕ) → a < 2 ^ 32 → low (pair a b) ≡ a
@@ -49,7 +50,7 @@ length-packed zero (a ∷ b ∷ ws) e = absurd (omega arith)
 length-packed (suc n) (a ∷ b ∷ ws) e = ap suc (length-packed n ws (omega arith))
 
 -- Four saved deadlines, one by one.
-pub four : (xs : List ℕ) → length xs ≡ 4 → getD xs 0 0 ∷ getD xs 1 0 ∷ getD xs 2 0 ∷ getD xs 3 0 ∷ [] ≡ xs
+pub four : (xs : List ℕ) → length xs ≡ mostHeld → getD xs 0 0 ∷ getD xs 1 0 ∷ getD xs 2 0 ∷ getD xs 3 0 ∷ [] ≡ xs
 four [] e = absurd (omega arith)
 four (a ∷ []) e = absurd (omega arith)
 four (a ∷ b ∷ []) e = absurd (omega arith)
@@ -58,7 +59,7 @@ four (a ∷ b ∷ c ∷ d ∷ []) e = refl
 four (a ∷ b ∷ c ∷ d ∷ f ∷ xs) e = absurd (omega arith)
 
 -- A row is read back, whatever stands behind it.
-pub job-cells : (job : Job) (rest : List ℕ) → WholeJob job → jobIn (jobCells job ++ rest) ≡ job
+pub job-cells : (job : Job) (rest : List ℕ) → TypedJob job → jobIn (jobCells job ++ rest) ≡ job
 job-cells job rest whole = λ i. record {
   base = job .base;
   active = job .active;
@@ -68,7 +69,7 @@ job-cells job rest whole = λ i. record {
   last = job .last;
 }
 
-pub jobs-cells : (jobs : List Job) → Each WholeJob jobs → jobsIn (length jobs) (rowCells jobs) ≡ jobs
+pub jobs-cells : (jobs : List Job) → Each TypedJob jobs → jobsIn (length jobs) (rowCells jobs) ≡ jobs
 unfolding jobsIn rowCells
 jobs-cells [] whole = refl
 jobs-cells (job ∷ jobs) whole = λ i. job-cells job (rowCells jobs) (whole .0) i ∷ jobs-cells jobs (whole .1) i
@@ -80,27 +81,27 @@ behind-at p q n k e = rw (← e) (getD-append-add p q k 0)
 pub behind-drop : (p q : List ℕ) (n k : ℕ) → length p ≡ n → drop (n + k) (p ++ q) ≡ drop k q
 behind-drop p q n k e = rw (← e) (drop-append-add p q k)
 
--- "encoding is the inverse on every state"
-pub decode-encode : (s : State) → Whole s → decode (encode s) ≡ s
+-- What is written is read back, of every state that is as its fields' types say.
+pub decode-encode : (s : State) → TypedState s → decode (encode s) ≡ s
 unfolding decode encode
 decode-encode s whole =
     let front = packed (s .words) in
-    let back = s .length ∷ nowCells (s .now) in
+    let back = s .length ∷ keptCells (s .kept) in
     let all : length front ≡ lengthAt = length-packed lengthAt (s .words) (whole .all-words) in
     let words-back : unpacked (take lengthAt (front ++ back)) ≡ s .words =
     ap unpacked (take-at front back lengthAt all) ∙ unpacked-packed lengthAt (s .words) (whole .all-words) (whole .words-half) in
-    let ready-back : low (getD (front ++ back) (clockAt + 2) 0) ≡ s .now .ready =
-    ap low (behind-at front back lengthAt 3 all) ∙ low-half (s .now .ready) (whole .ready-half) in
-    let had-back : low (getD (front ++ back) (clockAt + 3) 0) ≡ s .now .had =
-    ap low (behind-at front back lengthAt 4 all) ∙ low-half (s .now .had) (whole .had-half) in
-    let rows-back : jobsIn mostTasks (drop rowsAt (front ++ back)) ≡ s .now .rows =
+    let ready-back : low (getD (front ++ back) readyAt 0) ≡ s .kept .ready =
+    ap low (behind-at front back lengthAt 3 all) ∙ low-half (s .kept .ready) (whole .ready-half) in
+    let had-back : low (getD (front ++ back) hadAt 0) ≡ s .kept .had =
+    ap low (behind-at front back lengthAt 4 all) ∙ low-half (s .kept .had) (whole .had-half) in
+    let rows-back : jobsIn mostTasks (drop rowsAt (front ++ back)) ≡ s .kept .rows =
     ap (jobsIn mostTasks) (behind-drop front back lengthAt 5 all)
-    ∙ ap (λ (n : ℕ). jobsIn n (rowCells (s .now .rows))) (sym (whole .all-rows))
-    ∙ jobs-cells (s .now .rows) (whole .rows-whole) in
+    ∙ ap (λ (n : ℕ). jobsIn n (rowCells (s .kept .rows))) (sym (whole .all-rows))
+    ∙ jobs-cells (s .kept .rows) (whole .rows-typed) in
     λ i. record {
       words = words-back i;
       length = behind-at front back lengthAt 0 all i;
-      now = record {
+      kept = record {
         clock = behind-at front back lengthAt 1 all i;
         count = behind-at front back lengthAt 2 all i;
         ready = ready-back i;

@@ -1,17 +1,18 @@
--- What the loops of `image` do, a turn at a time: a list filled from the front, words read and written by pairs, rows read and written by nines. Assumes nothing.
+-- What the loops of `image` do, a turn at a time: a list filled from the front, words read and written by pairs, rows read and written one by one. Assumes nothing.
 use Prim.Native.Nat.{ℕ, zero, suc, _+_, _*_, _≤_, _<_}
 use mathlib.Core.Path.{_≡_, refl, sym, ap, _∙_}
 use mathlib.Core.List.{List, [], _∷_, _++_, append-assoc, append-nil}
+use native.Mathlib.Nat.{add-zero, add-assoc}
 use native.Mathlib.Numerals.{add-one, towards-suc}
 use native.Mathlib.Omega.{arith}
 use lib.ListN.{length, getD, take, drop, set, length-append, take-append-drop, length-drop, drop-of-length-le}
-use lib.Seq.{take-suc, drop-cons, append-snoc, set-at, length-take-le, sets-eq, take-at, drop-drop, take-all, getD-take, take-suc-set}
+use lib.Seq.{take-suc, drop-cons, append-snoc, set-at, length-take-le, sets-eq, take-at, drop-drop, take-all, getD-take, take-suc-set, getD-drop}
 use Rattle.table.specs.Limits.{room, mostTasks}
 use Rattle.machine.specs.declared.Job.{Job}
-use Rattle.machine.specs.declared.Now.{Now}
+use Rattle.machine.specs.declared.Kept.{Kept}
 use Rattle.dispatch.specs.declared.State.{State}
 use Rattle.machine.specs.Order.{noJob}
-use Rattle.board.specs.Image.{lengthAt, clockAt, rowsAt, rowSize, imageSize, low, high, pair, unpacked, packed, jobIn, jobsIn, jobCells, rowCells, nowCells, encode}
+use Rattle.board.specs.Image.{lengthAt, clockAt, countAt, readyAt, hadAt, rowsAt, activeAt, numberAt, placeAt, savedAt, lastAt, rowSize, imageSize, low, high, pair, unpacked, packed, jobIn, jobsIn, jobCells, rowCells, keptCells, encode}
 use Rattle.board.proofs.Codec.{behind-drop, length-packed}
 
 -- A list filled from the front: one store more.
@@ -67,21 +68,21 @@ packed-at (suc n) (a ∷ b ∷ ws) (suc k) e h =
     let more : suc k + suc k + 1 ≡ suc (suc (k + k + 1)) = omega arith in
     rw (more, twice) (packed-at n ws k (omega arith) (omega arith))
 
--- Rows by nines.
+-- Row by row.
 pub length-jobs : (n : ℕ) (xs : List ℕ) → length (jobsIn n xs) ≡ n
 unfolding jobsIn
 length-jobs zero xs = refl
 length-jobs (suc n) xs = ap suc (length-jobs n (drop rowSize xs))
 
-pub job-in : (n : ℕ) (xs : List ℕ) (i : ℕ) → i < n → getD (jobsIn n xs) i noJob ≡ jobIn (drop (9 * i) xs)
+pub job-in : (n : ℕ) (xs : List ℕ) (i : ℕ) → i < n → getD (jobsIn n xs) i noJob ≡ jobIn (drop (rowSize * i) xs)
 unfolding jobsIn
 job-in zero xs i h = absurd (omega arith)
 job-in (suc n) xs zero h = refl
 job-in (suc n) xs (suc i) h =
-    let more : 9 * suc i ≡ 9 + 9 * i = omega arith in
-    job-in n (drop rowSize xs) i (omega arith) ∙ ap jobIn (drop-drop (9 * i) 9 xs ∙ ap (λ k. drop k xs) (sym more))
+    let more : rowSize * suc i ≡ rowSize + rowSize * i = omega arith in
+    job-in n (drop rowSize xs) i (omega arith) ∙ ap jobIn (drop-drop (rowSize * i) rowSize xs ∙ ap (λ k. drop k xs) (sym more))
 
-pub length-rows : (jobs : List Job) → length (rowCells jobs) ≡ 9 * length jobs
+pub length-rows : (jobs : List Job) → length (rowCells jobs) ≡ rowSize * length jobs
 unfolding rowCells
 length-rows [] = refl
 length-rows (job ∷ jobs) = omega (arith, length-rows jobs)
@@ -91,6 +92,24 @@ unfolding rowCells
 rows-append [] ys = refl
 rows-append (x ∷ xs) ys = ap (λ l. jobCells x ++ l) (rows-append xs ys) ∙ sym (append-assoc (jobCells x) (rowCells xs) (rowCells ys))
 
+-- A row's numbers, read one by one from a place on.
+pub row-read : (image : List ℕ) (at : ℕ) →
+    record {
+      base = getD image at 0;
+      active = getD image (at + activeAt) 0;
+      number = getD image (at + numberAt) 0;
+      place = low (getD image (at + placeAt) 0);
+      saved =
+          getD image (at + savedAt) 0 ∷
+          getD image (at + savedAt + 1) 0 ∷
+          getD image (at + savedAt + 2) 0 ∷
+          getD image (at + savedAt + 3) 0 ∷
+          [];
+      last = getD image (at + lastAt) 0;
+    }
+    ≡ jobIn (drop at image)
+row-read image at = simp (getD-drop, add-zero, add-assoc)
+
 -- One row more.
 pub rows-more : (jobs : List Job) (i : ℕ) → i < length jobs → rowCells (take (suc i) jobs) ≡ rowCells (take i jobs) ++ jobCells (getD jobs i noJob)
 unfolding rowCells
@@ -99,52 +118,52 @@ rows-more jobs i h = ap rowCells (take-suc jobs i noJob h) ∙ rows-append (take
 
 -- An image whose first i rows are written.
 abbrev pub rowsPut : List ℕ → List Job → ℕ → List ℕ
-rowsPut image jobs i = take rowsAt image ++ (rowCells (take i jobs) ++ drop (rowsAt + 9 * i) image)
+rowsPut image jobs i = take rowsAt image ++ (rowCells (take i jobs) ++ drop (rowsAt + rowSize * i) image)
 
 pub rows-none : (image : List ℕ) (jobs : List Job) → image ≡ rowsPut image jobs 0
 unfolding rowCells
 rows-none image jobs = sym (take-append-drop rowsAt image)
 
 pub length-front : (image : List ℕ) (jobs : List Job) (i : ℕ) → length image ≡ imageSize → length jobs ≡ mostTasks → i ≤ mostTasks →
-    length (take rowsAt image ++ rowCells (take i jobs)) ≡ rowsAt + 9 * i
+    length (take rowsAt image ++ rowCells (take i jobs)) ≡ rowsAt + rowSize * i
 length-front image jobs i e f h =
     length-append (take rowsAt image) (rowCells (take i jobs))
     ∙ omega (arith, length-take-le rowsAt image (omega arith), length-rows (take i jobs), length-take-le i jobs (omega arith))
 
--- Nine numbers put behind the first n.
-pub nine-more : (front back cells : List ℕ) (n : ℕ) → length front ≡ n →
-    take n (front ++ back) ++ (cells ++ drop (n + 9) (front ++ back)) ≡ (front ++ cells) ++ drop 9 back
-nine-more front back cells n e =
-    ap (λ l. l ++ (cells ++ drop (n + 9) (front ++ back))) (take-at front back n e)
-    ∙ ap (λ l. front ++ (cells ++ l)) (behind-drop front back n 9 e)
-    ∙ sym (append-assoc front cells (drop 9 back))
+-- A row's numbers put behind the first n.
+pub cells-more : (front back cells : List ℕ) (n : ℕ) → length front ≡ n →
+    take n (front ++ back) ++ (cells ++ drop (n + rowSize) (front ++ back)) ≡ (front ++ cells) ++ drop rowSize back
+cells-more front back cells n e =
+    ap (λ l. l ++ (cells ++ drop (n + rowSize) (front ++ back))) (take-at front back n e)
+    ∙ ap (λ l. front ++ (cells ++ l)) (behind-drop front back n rowSize e)
+    ∙ sym (append-assoc front cells (drop rowSize back))
 
 -- The next row is written.
 pub row-more : (image : List ℕ) (jobs : List Job) (i : ℕ) → length image ≡ imageSize → length jobs ≡ mostTasks → i < mostTasks →
-    take (rowsAt + 9 * i) (rowsPut image jobs i)
-    ++ (jobCells (getD jobs i noJob) ++ drop (rowsAt + 9 * i + 9) (rowsPut image jobs i))
+    take (rowsAt + rowSize * i) (rowsPut image jobs i)
+    ++ (jobCells (getD jobs i noJob) ++ drop (rowsAt + rowSize * i + rowSize) (rowsPut image jobs i))
     ≡ rowsPut image jobs (i + 1)
 row-more image jobs i e f h =
     let start = take rowsAt image in
     let cells = jobCells (getD jobs i noJob) in
-    let n = rowsAt + 9 * i in
-    let next : n + 9 ≡ rowsAt + 9 * suc i = omega arith in
-    ap (λ l. take n l ++ (cells ++ drop (n + 9) l)) (sym (append-assoc start (rowCells (take i jobs)) (drop n image)))
-    ∙ nine-more (start ++ rowCells (take i jobs)) (drop n image) cells n (length-front image jobs i e f (omega arith))
-    ∙ ap (λ l. l ++ drop 9 (drop n image)) (append-assoc start (rowCells (take i jobs)) cells ∙ ap (λ l. start ++ l) (sym (rows-more jobs i (omega arith))))
-    ∙ append-assoc start (rowCells (take (suc i) jobs)) (drop 9 (drop n image))
-    ∙ ap (λ l. start ++ (rowCells (take (suc i) jobs) ++ l)) (drop-drop 9 n image ∙ ap (λ k. drop k image) next)
+    let n = rowsAt + rowSize * i in
+    let next : n + rowSize ≡ rowsAt + rowSize * suc i = omega arith in
+    ap (λ l. take n l ++ (cells ++ drop (n + rowSize) l)) (sym (append-assoc start (rowCells (take i jobs)) (drop n image)))
+    ∙ cells-more (start ++ rowCells (take i jobs)) (drop n image) cells n (length-front image jobs i e f (omega arith))
+    ∙ ap (λ l. l ++ drop rowSize (drop n image)) (append-assoc start (rowCells (take i jobs)) cells ∙ ap (λ l. start ++ l) (sym (rows-more jobs i (omega arith))))
+    ∙ append-assoc start (rowCells (take (suc i) jobs)) (drop rowSize (drop n image))
+    ∙ ap (λ l. start ++ (rowCells (take (suc i) jobs) ++ l)) (drop-drop rowSize n image ∙ ap (λ k. drop k image) next)
     ∙ ap (rowsPut image jobs) (sym (add-one i))
 
--- All sixteen are written, and nothing stands behind them.
+-- All are written, and nothing stands behind them.
 pub rows-all : (image : List ℕ) (jobs : List Job) → length image ≡ imageSize → length jobs ≡ mostTasks → rowsPut image jobs mostTasks ≡ take rowsAt image ++ rowCells jobs
 rows-all image jobs e f =
     ap (λ l. take rowsAt image ++ (rowCells l ++ drop imageSize image)) (take-all mostTasks jobs (omega arith))
     ∙ ap (λ l. take rowsAt image ++ (rowCells jobs ++ l)) (drop-of-length-le image {i = imageSize} (omega arith))
     ∙ ap (λ l. take rowsAt image ++ l) (append-nil (rowCells jobs))
 
--- Nine stores in a row.
-pub nine-stores : (l : List ℕ) (at : ℕ) (job : Job) → at + rowSize ≤ length l →
+-- The stores of a row, one behind the other.
+pub row-stores : (l : List ℕ) (at : ℕ) (job : Job) → at + rowSize ≤ length l →
     set
     (set
     (set
@@ -153,16 +172,16 @@ pub nine-stores : (l : List ℕ) (at : ℕ) (job : Job) → at + rowSize ≤ len
     (set
     (set
     (set
-    (set l at (job .base)) (at + 1) (job .active))
-    (at + 2) (job .number))
-    (at + 3) (job .place))
-    (at + 4) (getD (job .saved) 0 0))
-    (at + 5) (getD (job .saved) 1 0))
-    (at + 6) (getD (job .saved) 2 0))
-    (at + 7) (getD (job .saved) 3 0))
-    (at + 8) (job .last)
+    (set l at (job .base)) (at + activeAt) (job .active))
+    (at + numberAt) (job .number))
+    (at + placeAt) (job .place))
+    (at + savedAt) (getD (job .saved) 0 0))
+    (at + savedAt + 1) (getD (job .saved) 1 0))
+    (at + savedAt + 2) (getD (job .saved) 2 0))
+    (at + savedAt + 3) (getD (job .saved) 3 0))
+    (at + lastAt) (job .last)
     ≡ take at l ++ (jobCells job ++ drop (at + rowSize) l)
-nine-stores l at job h = simp towards-suc (sets-eq (jobCells job) l at h ∙ append-assoc (take at l) (jobCells job) (drop (at + rowSize) l))
+row-stores l at job h = simp towards-suc (sets-eq (jobCells job) l at h ∙ append-assoc (take at l) (jobCells job) (drop (at + rowSize) l))
 
 -- ---- what a turn of each loop does, and what stands at its end
 
@@ -197,12 +216,12 @@ abbrev pub rowsRead : List ℕ → List Job → ℕ → List Job
 rowsRead image before i = take i (jobsIn mostTasks (drop rowsAt image)) ++ drop i before
 
 pub read-more : (image : List ℕ) (before rows : List Job) (i : ℕ) → length before ≡ mostTasks → i < mostTasks → rows ≡ rowsRead image before i →
-    set rows i (jobIn (drop (rowsAt + 9 * i) image)) ≡ rowsRead image before (i + 1)
+    set rows i (jobIn (drop (rowsAt + rowSize * i) image)) ≡ rowsRead image before (i + 1)
 read-more image before rows i e h done =
     let all = jobsIn mostTasks (drop rowsAt image) in
-    let read : jobIn (drop (rowsAt + 9 * i) image) ≡ getD all i noJob =
-    ap jobIn (sym (drop-drop (9 * i) rowsAt image)) ∙ sym (job-in mostTasks (drop rowsAt image) i h) in
-    ap (λ l. set l i (jobIn (drop (rowsAt + 9 * i) image))) done
+    let read : jobIn (drop (rowsAt + rowSize * i) image) ≡ getD all i noJob =
+    ap jobIn (sym (drop-drop (rowSize * i) rowsAt image)) ∙ sym (job-in mostTasks (drop rowsAt image) i h) in
+    ap (λ l. set l i (jobIn (drop (rowsAt + rowSize * i) image))) done
     ∙ ap (λ job. set (rowsRead image before i) i job) read
     ∙ fill-more before all i noJob (omega arith) (omega (arith, length-jobs mostTasks (drop rowsAt image)))
     ∙ ap (rowsRead image before) (sym (add-one i))
@@ -237,10 +256,10 @@ module _ (image words : List ℕ) (whole : length image ≡ imageSize) (all : le
       ∙ ap (λ m. m ++ drop lengthAt image) (take-all lengthAt (packed words) (omega (arith, length-packed lengthAt words all)))
 
 -- What changes with an event: four stores, and the rows.
-pub now-put : (image l : List ℕ) (kept : Now) → length image ≡ imageSize →
-    l ≡ take rowsAt (set (set (set (set image 418 (kept .clock)) 419 (kept .count)) 420 (kept .ready)) 421 (kept .had)) ++ rowCells (kept .rows) →
-    l ≡ take clockAt image ++ nowCells kept
-now-put image l kept e done =
+pub kept-put : (image l : List ℕ) (kept : Kept) → length image ≡ imageSize →
+    l ≡ take rowsAt (set (set (set (set image clockAt (kept .clock)) countAt (kept .count)) readyAt (kept .ready)) hadAt (kept .had)) ++ rowCells (kept .rows) →
+    l ≡ take clockAt image ++ keptCells kept
+kept-put image l kept e done =
     let four = kept .clock ∷ kept .count ∷ kept .ready ∷ kept .had ∷ [] in
     let front : length (take clockAt image ++ four) ≡ rowsAt =
     length-append (take clockAt image) four ∙ omega (arith, length-take-le clockAt image (omega arith)) in
@@ -251,7 +270,7 @@ now-put image l kept e done =
 
 -- The whole state: the words, the length, and what changes with an event.
 pub state-put : (image m l : List ℕ) (s : State) → length image ≡ imageSize → length (s .words) ≡ room →
-    m ≡ packed (s .words) ++ drop lengthAt image → l ≡ take clockAt (set m lengthAt (s .length)) ++ nowCells (s .now) → l ≡ encode s
+    m ≡ packed (s .words) ++ drop lengthAt image → l ≡ take clockAt (set m lengthAt (s .length)) ++ keptCells (s .kept) → l ≡ encode s
 unfolding encode
 state-put image m l s e all words done =
     let front = packed (s .words) in
@@ -259,7 +278,7 @@ state-put image m l s e all words done =
     let long : length m ≡ imageSize =
     ap length words ∙ length-append front (drop lengthAt image) ∙ omega (arith, length-drop lengthAt image, size) in
     done
-    ∙ ap (λ x. x ++ nowCells (s .now)) (take-suc-set m lengthAt (s .length) (omega arith))
-    ∙ ap (λ x. take lengthAt x ++ (s .length ∷ []) ++ nowCells (s .now)) words
-    ∙ ap (λ x. x ++ (s .length ∷ []) ++ nowCells (s .now)) (take-at front (drop lengthAt image) lengthAt size)
-    ∙ append-snoc front (s .length) (nowCells (s .now))
+    ∙ ap (λ x. x ++ keptCells (s .kept)) (take-suc-set m lengthAt (s .length) (omega arith))
+    ∙ ap (λ x. take lengthAt x ++ (s .length ∷ []) ++ keptCells (s .kept)) words
+    ∙ ap (λ x. x ++ (s .length ∷ []) ++ keptCells (s .kept)) (take-at front (drop lengthAt image) lengthAt size)
+    ∙ append-snoc front (s .length) (keptCells (s .kept))

@@ -11,7 +11,7 @@ use mir.Syntax.{w64}
 use mir.Val.{SFits, toZ, ofZ}
 use mir.Facts.{toZ-ofZ}
 use Rattle.table.specs.Said as table
-use Rattle.machine.specs.Reply.{Turn, runs, idle, Said, refused, wentOn, finished}
+use Rattle.machine.specs.Reply.{Turn, runs, idle, EventReply, refused, wentOn, finished}
 use Rattle.dispatch.specs.Heard.{numberOf}
 use Rattle.dispatch.specs.declared.Refusal.{Refusal}
 use Rattle.dispatch.specs.declared.Refusal.the-variants.{Torn, Back, End, Nobody, Active, Early, Held}
@@ -20,9 +20,6 @@ use Rattle.board.specs.Answer.{ACCEPTED, FINISHED, bitsOf, turnAnswer, e
 
 at : (k : ℕ) {xs ys : List ℕ} → xs ≡ ys → getD xs k 0 ≡ getD ys k 0
 at k e = ap (λ xs. getD xs k 0) e
-
-never : {A : Type 0} → (n m : ℕ) → n ≡ m → (n ≡ m → ⊥) → A
-never n m e apart = absurd (apart e)
 
 -- Two's complement of 64 bits loses nothing.
 bits-apart : (a b : ℤ) → mag a < 2 ^ 63 → mag b < 2 ^ 63 → bitsOf a ≡ bitsOf b → a ≡ b
@@ -40,8 +37,8 @@ bits-apart a b f g e =
 
 turn-apart : (number v w : ℕ) (t u : Turn) → turnAnswer number v t ≡ turnAnswer number w u → t ≡ u
 turn-apart number v w (runs i deadline) (runs j later) e = λ k. runs (at 3 e k) (at 4 e k)
-turn-apart number v w (runs i deadline) idle e = never 1 0 (at 2 e) (omega arith)
-turn-apart number v w idle (runs j later) e = never 0 1 (at 2 e) (omega arith)
+turn-apart number v w (runs i deadline) idle e = absurd (omega (arith, at 2 e))
+turn-apart number v w idle (runs j later) e = absurd (omega (arith, at 2 e))
 turn-apart number v w idle idle e = refl
 
 first : (number v : ℕ) (t : Turn) → getD (turnAnswer number v t) 0 0 ≡ number
@@ -53,7 +50,7 @@ second number v (runs i deadline) = refl
 second number v idle = refl
 
 -- What a reply can be: a refusal's number between the two that are ours, a lateness that fits.
-abbrev pub Sayable : Said → Type 0
+abbrev pub Sayable : EventReply → Type 0
 Sayable (refused number) = (ACCEPTED < number) × (number < FINISHED)
 Sayable (wentOn turn) = Unit {0}
 Sayable (finished late turn) = mag late < 2 ^ 63
@@ -67,32 +64,32 @@ refusal-sayable Active = omega arith
 refusal-sayable Early = omega arith
 refusal-sayable Held = omega arith
 
-pub told-apart : (a b : Said) → Sayable a → Sayable b → eventAnswer a ≡ eventAnswer b → a ≡ b
+pub told-apart : (a b : EventReply) → Sayable a → Sayable b → eventAnswer a ≡ eventAnswer b → a ≡ b
 told-apart (refused n) (refused m) p q e = ap refused (at 0 e)
-told-apart (refused n) (wentOn t) p q e = never n ACCEPTED (at 0 e ∙ first ACCEPTED 0 t) (omega arith)
-told-apart (refused n) (finished late t) p q e = never n FINISHED (at 0 e ∙ first FINISHED (bitsOf late) t) (omega arith)
-told-apart (wentOn t) (refused m) p q e = never ACCEPTED m (sym (first ACCEPTED 0 t) ∙ at 0 e) (omega arith)
+told-apart (refused n) (wentOn t) p q e = absurd (omega (arith, at 0 e ∙ first ACCEPTED 0 t))
+told-apart (refused n) (finished late t) p q e = absurd (omega (arith, at 0 e ∙ first FINISHED (bitsOf late) t))
+told-apart (wentOn t) (refused m) p q e = absurd (omega (arith, sym (first ACCEPTED 0 t) ∙ at 0 e))
 told-apart (wentOn t) (wentOn u) p q e = ap wentOn (turn-apart ACCEPTED 0 0 t u e)
 told-apart (wentOn t) (finished late u) p q e =
-    never ACCEPTED FINISHED (sym (first ACCEPTED 0 t) ∙ at 0 e ∙ first FINISHED (bitsOf late) u) (omega arith)
-told-apart (finished late t) (refused m) p q e = never FINISHED m (sym (first FINISHED (bitsOf late) t) ∙ at 0 e) (omega arith)
+    absurd (omega (arith, sym (first ACCEPTED 0 t) ∙ at 0 e ∙ first FINISHED (bitsOf late) u))
+told-apart (finished late t) (refused m) p q e = absurd (omega (arith, sym (first FINISHED (bitsOf late) t) ∙ at 0 e))
 told-apart (finished late t) (wentOn u) p q e =
-    never FINISHED ACCEPTED (sym (first FINISHED (bitsOf late) t) ∙ at 0 e ∙ first ACCEPTED 0 u) (omega arith)
+    absurd (omega (arith, sym (first FINISHED (bitsOf late) t) ∙ at 0 e ∙ first ACCEPTED 0 u))
 told-apart (finished late t) (finished later u) p q e =
     let same-late : late ≡ later =
     bits-apart late later p q (sym (second FINISHED (bitsOf late) t) ∙ at 1 e ∙ second FINISHED (bitsOf later) u) in
     λ i. finished (same-late i) (turn-apart FINISHED (bitsOf late) (bitsOf later) t u e i)
 
 -- The check's answers, whose numbers are not 0, and the verdict's.
-abbrev pub Numbered : table.Said → Type 0
+abbrev pub Numbered : table.CheckReply → Type 0
 Numbered table.passes = Unit {0}
 Numbered (table.says number place) = ACCEPTED < number
 
-pub found-apart : (a b : table.Said) → Numbered a → Numbered b → checkAnswer a ≡ checkAnswer b → a ≡ b
+pub found-apart : (a b : table.CheckReply) → Numbered a → Numbered b → checkAnswer a ≡ checkAnswer b → a ≡ b
 found-apart table.passes table.passes p q e = refl
-found-apart table.passes (table.says n place) p q e = never ACCEPTED n (at 0 e) (omega arith)
-found-apart (table.says n place) table.passes p q e = never n ACCEPTED (at 0 e) (omega arith)
+found-apart table.passes (table.says n place) p q e = absurd (omega (arith, at 0 e))
+found-apart (table.says n place) table.passes p q e = absurd (omega (arith, at 0 e))
 found-apart (table.says n place) (table.says m other) p q e = λ i. table.says (at 0 e i) (at 1 e i)
 
-pub judged-apart : (a b : verdict.Said) → verdictAnswer a ≡ verdictAnswer b → a ≡ b
+pub judged-apart : (a b : verdict.VerdictReply) → verdictAnswer a ≡ verdictAnswer b → a ≡ b
 judged-apart (verdict.says n v) (verdict.says m w) e = λ i. verdict.says (at 0 e i) (at 1 e i)

@@ -4,7 +4,7 @@ use Prim.Native.Nat.{ℕ, suc, _-_, _^_}
 use mathlib.Core.List.{List, [], _∷_}
 use lib.IntN.{ℤ, pos, negsuc}
 use Rattle.table.specs.Said as table
-use Rattle.machine.specs.Reply.{Turn, runs, idle, Said, refused, wentOn, finished}
+use Rattle.machine.specs.Reply.{Turn, runs, idle, EventReply, refused, wentOn, finished}
 use Rattle.verdict.specs.Verdict as verdict
 
 -- The list is sound, the state is started, the event is accepted.
@@ -29,16 +29,16 @@ turnAnswer number value (runs i deadline) = number ∷ value ∷ 1 ∷ i ∷ dea
 turnAnswer number value idle = answerOf number value
 
 -- An event's answer: a refusal's "number alone"; "a finish adds its lateness".
-abbrev pub eventAnswer : Said → List ℕ
+abbrev pub eventAnswer : EventReply → List ℕ
 eventAnswer (refused number) = answerOf number 0
 eventAnswer (wentOn turn) = turnAnswer ACCEPTED 0 turn
 eventAnswer (finished late turn) = turnAnswer FINISHED (bitsOf late) turn
 
 -- The check's answer, and a start's: "its number and place".
-abbrev pub checkAnswer : table.Said → List ℕ
+abbrev pub checkAnswer : table.CheckReply → List ℕ
 checkAnswer table.passes = answerOf ACCEPTED 0
 checkAnswer (table.says number place) = answerOf number place
 
 -- The verdict's answer.
-abbrev pub verdictAnswer : verdict.Said → List ℕ
+abbrev pub verdictAnswer : verdict.VerdictReply → List ℕ
 verdictAnswer (verdict.says number value) = answerOf number value

@@ -5,7 +5,7 @@ use mathlib.Core.Path.{_≡_}
 use mathlib.Core.List.{List}
 use lib.ListN.{getD}
 use Rattle.table.specs.Said.{checkSaid}
-use Rattle.machine.specs.Reply.{Said, refused, wentOn, finished}
+use Rattle.machine.specs.Reply.{EventReply, refused, wentOn, finished}
 use Rattle.dispatch.specs.Heard.{Heard}
 use Rattle.dispatch.specs.Dispatch.{startOf, releaseOf, stepOf}
 use Rattle.verdict.specs.Verdict.{verdictOf}
@@ -13,11 +13,11 @@ use Rattle.board.specs.Image.{decode, encode}
 use Rattle.board.specs.Answer.{eventAnswer, checkAnswer, verdictAnswer}
 
 -- The first number of an answer, which a call returns too.
-abbrev pub numberIn : List ℕ → ℕ
-numberIn answer = getD answer 0 0
+abbrev pub firstNumber : List ℕ → ℕ
+firstNumber answer = getD answer 0 0
 
 -- "the state comes back equal, clock included"
-abbrev pub imageAfter : List ℕ → List ℕ → Said → List ℕ
+abbrev pub imageAfter : List ℕ → List ℕ → EventReply → List ℕ
 imageAfter before after (refused number) = before
 imageAfter before after (wentOn turn) = after
 imageAfter before after (finished late turn) = after
@@ -54,17 +54,17 @@ unfoldable pub judgedAnswer : List ℕ → List ℕ
 judgedAnswer ws = verdictAnswer (verdictOf ws)
 
 -- What a call promises of the image and the answer that it leaves: they are those numbers, and the image, read again, is the state that `dispatch` hands back.
-pub record Released (before : List ℕ) (i time : ℕ) (image answer : List ℕ) : Type 0 where
+pub record ReleaseLeaves (before : List ℕ) (i time : ℕ) (image answer : List ℕ) : Type 0 where
   pub image-is : image ≡ releaseImage before i time
   pub answer-is : answer ≡ releaseAnswer before i time
   pub state-is : decode image ≡ releaseOf (decode before) i time .state
 
-pub record Stepped (before : List ℕ) (time : ℕ) (image answer : List ℕ) : Type 0 where
+pub record StepLeaves (before : List ℕ) (time : ℕ) (image answer : List ℕ) : Type 0 where
   pub image-is : image ≡ stepImage before time
   pub answer-is : answer ≡ stepAnswer before time
   pub state-is : decode image ≡ stepOf (decode before) time .state
 
-pub record Begins (words image answer : List ℕ) : Type 0 where
+pub record StartLeaves (words image answer : List ℕ) : Type 0 where
   pub image-is : image ≡ startImage words
   pub answer-is : answer ≡ startAnswer words
   pub state-is : decode image ≡ startOf words .state

@@ -4,23 +4,37 @@ ghost use mathlib.Core.List.{_++_};
 ghost use Prim.Native.Nat.{_+_, _≤_};
 ghost use lib.ListN.{length, take, drop};
 ghost use Rattle.table.specs.Limits.{room, mostTasks};
-ghost use Rattle.board.specs.Image.{lengthAt, clockAt, rowsAt, rowSize, imageSize, unpacked, packed, jobIn, jobsIn, decode, jobCells, rowCells, nowCells, encode};
+ghost use Rattle.board.specs.Image.{lengthAt, clockAt, rowsAt, rowSize, imageSize, unpacked, packed, jobIn, jobsIn, decode, jobCells, rowCells, keptCells, encode};
+use crate::places::ACTIVE_AT;
+use crate::places::CLOCK_AT;
+use crate::places::COUNT_AT;
+use crate::places::HAD_AT;
+use crate::places::HALF;
+use crate::places::LAST_AT;
+use crate::places::LENGTH_AT;
+use crate::places::NUMBER_AT;
+use crate::places::PLACE_AT;
+use crate::places::READY_AT;
+use crate::places::ROW_SIZE;
+use crate::places::ROWS_AT;
+use crate::places::SAVED_AT;
 use dispatch::State;
 use machine::Job;
-use machine::Now;
+use machine::Kept;
+use table::limits::MOST_HELD;
+use table::limits::ROOM;
+use table::limits::TASKS;
 
 // The words of the table, two in each number.
-pub(crate) fn words_of(image: &[u64]) -> [u32; 834]
+pub(crate) fn words_of(image: &[u64]) -> [u32; ROOM]
     requires { ⌜ length (now image) ≡ imageSize ⌝ }
     ensures { λ r. ⌜ r ≡ unpacked (take lengthAt (now (image .entry))) ⌝ }
 {
-    let mut words = [0u32; 834];
-    let mut k = 0;
-    while k < 417 {
+    let mut words = [0u32; ROOM];
+    for k in 0..LENGTH_AT {
         let pair = image[k];
-        words[k + k] = (pair % 4294967296) as u32;
-        words[k + k + 1] = (pair / 4294967296) as u32;
-        k += 1;
+        words[k + k] = (pair % HALF) as u32;
+        words[k + k + 1] = (pair / HALF) as u32;
     }
     words
 }
@@ -30,19 +44,24 @@ fn job_at(image: &[u64], at: usize) -> Job
     requires { ⌜ at + rowSize ≤ length (now image) ⌝ }
     ensures { λ r. ⌜ r ≡ jobIn (drop at (now (image .entry))) ⌝ }
 {
-    let saved = [image[at + 4], image[at + 5], image[at + 6], image[at + 7]];
+    let saved = [
+        image[at + SAVED_AT],
+        image[at + SAVED_AT + 1],
+        image[at + SAVED_AT + 2],
+        image[at + SAVED_AT + 3],
+    ];
     Job {
         base: image[at],
-        active: image[at + 1],
-        number: image[at + 2],
-        place: (image[at + 3] % 4294967296) as u32,
+        active: image[at + ACTIVE_AT],
+        number: image[at + NUMBER_AT],
+        place: (image[at + PLACE_AT] % HALF) as u32,
         saved,
-        last: image[at + 8],
+        last: image[at + LAST_AT],
     }
 }
 
-// The sixteen rows.
-fn rows_of(image: &[u64]) -> [Job; 16]
+// The rows, one for each task that a table may have.
+fn rows_of(image: &[u64]) -> [Job; TASKS]
     requires { ⌜ length (now image) ≡ imageSize ⌝ }
     ensures { λ r. ⌜ r ≡ jobsIn mostTasks (drop rowsAt (now (image .entry))) ⌝ }
 {
@@ -51,72 +70,68 @@ fn rows_of(image: &[u64]) -> [Job; 16]
         active: 0,
         number: 0,
         place: 0,
-        saved: [0; 4],
+        saved: [0; MOST_HELD],
         last: 0,
     };
-    let mut rows = [empty; 16];
-    let mut i = 0;
-    while i < 16 {
-        rows[i] = job_at(image, 422 + 9 * i);
-        i += 1;
+    let mut rows = [empty; TASKS];
+    for i in 0..TASKS {
+        rows[i] = job_at(image, ROWS_AT + ROW_SIZE * i);
     }
     rows
 }
 
 // What is kept, of the state that an image is.
-pub(crate) fn now_of(image: &[u64]) -> Now
+pub(crate) fn kept_of(image: &[u64]) -> Kept
     requires { ⌜ length (now image) ≡ imageSize ⌝ }
-    ensures { λ r. ⌜ r ≡ decode (now (image .entry)) .now ⌝ }
+    ensures { λ r. ⌜ r ≡ decode (now (image .entry)) .kept ⌝ }
 {
     let rows = rows_of(image);
-    Now {
-        clock: image[418],
-        count: image[419],
-        ready: (image[420] % 4294967296) as u32,
-        had: (image[421] % 4294967296) as u32,
+    Kept {
+        clock: image[CLOCK_AT],
+        count: image[COUNT_AT],
+        ready: (image[READY_AT] % HALF) as u32,
+        had: (image[HAD_AT] % HALF) as u32,
         rows,
     }
 }
 
-// A row's nine numbers, from a place on.
+// A row's numbers, from a place on.
 fn put_job(image: &mut [u64], at: usize, job: Job)
     requires { ⌜ at + rowSize ≤ length (now image) ⌝ }
     ensures { λ _. ⌜ now (image .exit) ≡ take at (now (image .entry)) ++ (jobCells job ++ drop (at + rowSize) (now (image .entry))) ⌝ }
 {
     let saved = job.saved;
     image[at] = job.base;
-    image[at + 1] = job.active;
-    image[at + 2] = job.number;
-    image[at + 3] = job.place as u64;
-    image[at + 4] = saved[0];
-    image[at + 5] = saved[1];
-    image[at + 6] = saved[2];
-    image[at + 7] = saved[3];
-    image[at + 8] = job.last;
+    image[at + ACTIVE_AT] = job.active;
+    image[at + NUMBER_AT] = job.number;
+    image[at + PLACE_AT] = job.place as u64;
+    image[at + SAVED_AT] = saved[0];
+    image[at + SAVED_AT + 1] = saved[1];
+    image[at + SAVED_AT + 2] = saved[2];
+    image[at + SAVED_AT + 3] = saved[3];
+    image[at + LAST_AT] = job.last;
 }
 
-// The sixteen rows.
-fn put_rows(image: &mut [u64], rows: [Job; 16])
+// The rows, one for each task that a table may have.
+fn put_rows(image: &mut [u64], rows: [Job; TASKS])
     requires { ⌜ length (now image) ≡ imageSize ⌝ }
     ensures { λ _. ⌜ now (image .exit) ≡ take rowsAt (now (image .entry)) ++ rowCells rows ⌝ }
 {
-    let mut i = 0;
-    while i < 16 {
+    for i in 0..TASKS {
         let job = rows[i];
-        put_job(image, 422 + 9 * i, job);
-        i += 1;
+        put_job(image, ROWS_AT + ROW_SIZE * i, job);
     }
 }
 
 // What an event changes. The words and their length stay as they lie.
-pub(crate) fn put_now(image: &mut [u64], kept: Now)
+pub(crate) fn put_kept(image: &mut [u64], kept: Kept)
     requires { ⌜ length (now image) ≡ imageSize ⌝ }
-    ensures { λ _. ⌜ now (image .exit) ≡ take clockAt (now (image .entry)) ++ nowCells kept ⌝ }
+    ensures { λ _. ⌜ now (image .exit) ≡ take clockAt (now (image .entry)) ++ keptCells kept ⌝ }
 {
-    image[418] = kept.clock;
-    image[419] = kept.count;
-    image[420] = kept.ready as u64;
-    image[421] = kept.had as u64;
+    image[CLOCK_AT] = kept.clock;
+    image[COUNT_AT] = kept.count;
+    image[READY_AT] = kept.ready as u64;
+    image[HAD_AT] = kept.had as u64;
     let rows = kept.rows;
     put_rows(image, rows);
 }
@@ -126,10 +141,8 @@ fn put_words(image: &mut [u64], words: &[u32])
     requires { ⌜ (length (now image) ≡ imageSize) × (length (now words) ≡ room) ⌝ }
     ensures { λ _. ⌜ now (image .exit) ≡ packed (now (words .entry)) ++ drop lengthAt (now (image .entry)) ⌝ }
 {
-    let mut k = 0;
-    while k < 417 {
-        image[k] = (words[k + k] as u64) + (words[k + k + 1] as u64) * 4294967296;
-        k += 1;
+    for k in 0..LENGTH_AT {
+        image[k] = (words[k + k] as u64) + (words[k + k + 1] as u64) * HALF;
     }
 }
 
@@ -139,7 +152,7 @@ pub(crate) fn put_state(image: &mut [u64], state: State)
     ensures { λ _. ⌜ now (image .exit) ≡ encode state ⌝ }
 {
     put_words(image, &state.words);
-    image[417] = state.length as u64;
-    let kept = state.now;
-    put_now(image, kept);
+    image[LENGTH_AT] = state.length as u64;
+    let kept = state.kept;
+    put_kept(image, kept);
 }

@@ -6,7 +6,7 @@ use mathlib.Core.List.{List}
 use lib.ListN.{length}
 use Rattle.table.specs.Limits.{room}
 use Rattle.table.specs.Check.{Checked, sound, refused, checkOf}
-use Rattle.table.specs.Said.{Said, saidOf, findingSaid, checkSaid, passes}
+use Rattle.table.specs.Said.{CheckReply, saidOf, findingSaid, checkSaid, passes}
 use Rattle.table.specs.declared.Finding.{Finding}
 use Rattle.table.specs.declared.Finding.the-variants.{Sound}
 use Rattle.table.proofs.Laws.{sound-length}
@@ -14,9 +14,9 @@ use Rattle.dispatch.specs.State.{freshState, zeroState}
 use Rattle.dispatch.specs.Heard.{Begun}
 use Rattle.dispatch.specs.Dispatch.{startFrom, startOf}
 use Rattle.dispatch.specs.declared.State.{State}
-use Rattle.dispatch.proofs.Grounds.{passed-sound, not-sound, sound-told}
+use Rattle.torn.proofs.Grounds.{passed-sound, not-sound, sound-told}
 
-begun : State → Said → Begun
+begun : State → CheckReply → Begun
 begun state said = record { state = state; said = said }
 
 pub start-refused : (ws : List ℕ) (found : Finding) (state : State) → saidOf found ≡ checkSaid ws → (found ≡ Sound → ⊥) → state ≡ zeroState →

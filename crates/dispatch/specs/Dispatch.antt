@@ -1,16 +1,15 @@
 -- The dispatcher's three calls, whole: what each hands back and says, for every list of words, every state, every task and every time. TORN goes first,
 -- and then the machine. Assumes nothing.
 use Prim.Native.Nat.{ℕ}
-use mathlib.Core.Bool.{cond}
-use mathlib.Core.List.{List}
+use mathlib.Core.List.{List, _∷_}
 use lib.ListN.{length}
 use Rattle.table.specs.Check.{Checked, sound, refused, checkOf}
 use Rattle.table.specs.Said.{passes, says}
-use Rattle.machine.specs.Reply.{TORN}
-use Rattle.machine.specs.Reply as reply
-use Rattle.machine.specs.Machine.{Outcome, releaseIn, stepIn}
-use Rattle.dispatch.specs.State.{tableIn, freshState, zeroState}
-use Rattle.dispatch.specs.Torn.{torn}
+use Rattle.machine.specs.Event.{Event, release, step}
+use Rattle.machine.specs.Moves.{Outcome, accepted}
+use Rattle.machine.specs.Away.{Ground, given, groundsOf}
+use Rattle.dispatch.specs.State.{stateOf, tableIn, freshState, zeroState}
+use Rattle.dispatch.specs.Torn.{tornGround}
 use Rattle.dispatch.specs.Heard.{Heard, Begun}
 use Rattle.dispatch.specs.declared.State.{State}
 
@@ -24,19 +23,20 @@ startOf ws = startFrom (checkOf ws) ws
 
 -- The state with what is kept after an event; its words stay.
 abbrev pub after : State → Outcome → Heard
-after s out = record {
-  state = record { words = s .words; length = s .length; now = out .now };
-  said = out .said;
-}
+after s out = record { state = stateOf (s .words) (s .length) (out .kept); said = out .said }
 
--- "The reply is the number alone; the state comes back equal, clock included."
-abbrev pub isTorn : State → Heard
-isTorn s = record { state = s; said = reply.refused TORN }
+-- "When an event is turned away": the whole table, for an event on a state.
+abbrev pub groundsIn : State → Event → List Ground
+groundsIn s e = tornGround s ∷ groundsOf (tableIn s) (s .kept) e
+
+-- An event on a state: tests, move, turn.
+abbrev pub eventOf : State → Event → Heard
+eventOf s e = after s (given (groundsIn s e) (s .kept) (accepted (tableIn s) (s .kept) e))
 
 -- A release of task i at a time.
 unfoldable pub releaseOf : State → ℕ → ℕ → Heard
-releaseOf s i time = cond (torn s) (isTorn s) (after s (releaseIn (tableIn s) (s .now) i time))
+releaseOf s i time = eventOf s (release i time)
 
 -- The running job's next step at a time.
 unfoldable pub stepOf : State → ℕ → Heard
-stepOf s time = cond (torn s) (isTorn s) (after s (stepIn (tableIn s) (s .now) time))
+stepOf s time = eventOf s (step time)

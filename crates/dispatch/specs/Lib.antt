@@ -4,4 +4,3 @@ pub mod Torn
 pub mod Heard
 pub mod Dispatch
 pub mod Parts
-pub mod Away

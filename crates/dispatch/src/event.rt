@@ -5,15 +5,15 @@ use crate::Refusal;
 use crate::release;
 use crate::said;
 use crate::step;
-use crate::torn;
-use machine::Now;
+use machine::Kept;
+use table::limits::ROOM;
 ghost use mathlib.Core.Path.{_≡_};
 ghost use Rattle.dispatch.specs.State.{stateOf};
 ghost use Rattle.dispatch.specs.Heard.{outcomeOf};
 ghost use Rattle.dispatch.specs.Dispatch.{releaseOf, stepOf, after};
 
 // A release of a task at a time.
-pub fn release(words: &[u32; 834], used: usize, kept: Now, task: u32, time: u64) -> Outcome
+pub fn release(words: &[u32; ROOM], used: usize, kept: Kept, task: u32, time: u64) -> Outcome
     ensures { λ r. ⌜ after (stateOf (now (words .entry)) used kept) (outcomeOf r) ≡ releaseOf (stateOf (now (words .entry)) used kept) task time ⌝ }
 {
     let all: &[u32] = words;
@@ -27,7 +27,7 @@ pub fn release(words: &[u32; 834], used: usize, kept: Now, task: u32, time: u64)
 }
 
 // The running job's next step at a time.
-pub fn step(words: &[u32; 834], used: usize, kept: Now, time: u64) -> Outcome
+pub fn step(words: &[u32; ROOM], used: usize, kept: Kept, time: u64) -> Outcome
     ensures { λ r. ⌜ after (stateOf (now (words .entry)) used kept) (outcomeOf r) ≡ stepOf (stateOf (now (words .entry)) used kept) time ⌝ }
 {
     let all: &[u32] = words;

@@ -1,24 +1,31 @@
 // The dispatcher of document 01: a state made from a checked table, and two events on it, each answered with who runs.
-mod change; // change.rt: what an accepted event does to what is kept
+mod change; // change.rt: what a move does to a row
 pub mod event; // event.rt: an event on a state's parts, TORN included
+mod moves; // moves.rt: the four moves
 mod release; // release.rt: a release, from BACK on
 mod said; // said.rt: what an event answers
 mod start; // start.rt: the states that a start makes
 mod step; // step.rt: a step, from BACK on
-mod torn; // torn.rt: the grounds of TORN
 
 ghost use mathlib.Core.Path.{_≡_};
-ghost use Rattle.dispatch.specs.Heard.{heardOf, outcomeOf, begunOf};
+ghost use Rattle.dispatch.specs.Heard.{numberOf, heardOf, outcomeOf, begunOf};
 ghost use Rattle.dispatch.specs.Dispatch.{startOf, releaseOf, stepOf, after};
-use machine::Now;
+use machine::Kept;
+use numbers::answers::ACTIVE;
+use numbers::answers::BACK;
+use numbers::answers::EARLY;
+use numbers::answers::END;
+use numbers::answers::HELD;
+use numbers::answers::NOBODY;
+use numbers::answers::TORN;
 use table::Finding;
-use table::Map;
+use table::limits::ROOM;
 
 // The words of a table, with their length, and what is kept.
 pub struct State {
-    pub words: [u32; 834],
+    pub words: [u32; ROOM],
     pub length: usize,
-    pub now: Now,
+    pub kept: Kept,
 }
 
 // "runs" with task number and active deadline, or "idle".
@@ -38,6 +45,23 @@ pub enum Refusal {
     Held,
 }
 
+impl Refusal {
+    // Document 01's number.
+    pub fn number(self) -> u32
+        ensures { λ r. ⌜ r ≡ numberOf self ⌝ }
+    {
+        match self {
+            Refusal::Torn => TORN,
+            Refusal::Back => BACK,
+            Refusal::End => END,
+            Refusal::Nobody => NOBODY,
+            Refusal::Active => ACTIVE,
+            Refusal::Early => EARLY,
+            Refusal::Held => HELD,
+        }
+    }
+}
+
 // What an event answers.
 pub enum Reply {
     Refused(Refusal),
@@ -53,7 +77,7 @@ pub struct Answer {
 
 // What is kept after an event, and the reply. The words stay with the caller.
 pub struct Outcome {
-    pub now: Now,
+    pub kept: Kept,
     pub reply: Reply,
 }
 
@@ -61,12 +85,6 @@ pub struct Outcome {
 pub struct Started {
     pub finding: Finding,
     pub state: State,
-}
-
-// What the test of TORN learns: whether the state is torn, and where its tasks start.
-struct Tested {
-    torn: bool,
-    map: Map,
 }
 
 impl State {
@@ -91,7 +109,7 @@ impl State {
     pub fn release(self, task: u32, time: u64) -> Answer
         ensures { λ r. ⌜ heardOf r ≡ releaseOf self task time ⌝ }
     {
-        let kept = self.now;
+        let kept = self.kept;
         let outcome = event::release(&self.words, self.length, kept, task, time);
         self.answered(outcome)
     }
@@ -100,7 +118,7 @@ impl State {
     pub fn step(self, time: u64) -> Answer
         ensures { λ r. ⌜ heardOf r ≡ stepOf self time ⌝ }
     {
-        let kept = self.now;
+        let kept = self.kept;
         let outcome = event::step(&self.words, self.length, kept, time);
         self.answered(outcome)
     }
@@ -109,16 +127,10 @@ impl State {
     fn answered(self, outcome: Outcome) -> Answer
         ensures { λ r. ⌜ heardOf r ≡ after self (outcomeOf outcome) ⌝ }
     {
-        let words = self.words;
-        let now = outcome.now;
+        let kept = outcome.kept;
         let reply = outcome.reply;
-        Answer {
-            state: State {
-                words,
-                length: self.length,
-                now,
-            },
-            reply,
-        }
+        let mut state = self;
+        state.kept = kept;
+        Answer { state, reply }
     }
 }

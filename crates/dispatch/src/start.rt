@@ -1,6 +1,7 @@
 // The two states that a start makes.
 use crate::State;
 use crate::change;
+use table::limits::ROOM;
 ghost use mathlib.Core.Path.{_≡_};
 ghost use Prim.Native.Nat.{_≤_};
 ghost use lib.ListN.{length};
@@ -9,11 +10,11 @@ ghost use Rattle.table.specs.Map.{padded};
 ghost use Rattle.dispatch.specs.State.{freshState, zeroState};
 
 // The words in the state's room; the room behind them is 0.
-fn stored(words: &[u32]) -> [u32; 834]
+fn stored(words: &[u32]) -> [u32; ROOM]
     requires { ⌜ length (now words) ≤ room ⌝ }
     ensures { λ r. ⌜ r ≡ padded room (now (words .entry)) ⌝ }
 {
-    let mut list = [0u32; 834];
+    let mut list = [0u32; ROOM];
     let mut i: usize = 0;
     while i < words.len() {
         list[i] = words[i];
@@ -31,7 +32,7 @@ pub(crate) fn fresh(words: &[u32]) -> State
     State {
         words: list,
         length: words.len(),
-        now: kept,
+        kept,
     }
 }
 
@@ -39,11 +40,11 @@ pub(crate) fn fresh(words: &[u32]) -> State
 pub(crate) fn zero() -> State
     ensures { λ r. ⌜ r ≡ zeroState ⌝ }
 {
-    let list = [0u32; 834];
+    let list = [0u32; ROOM];
     let kept = change::fresh();
     State {
         words: list,
         length: 0,
-        now: kept,
+        kept,
     }
 }

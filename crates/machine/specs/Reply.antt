@@ -8,29 +8,13 @@ pub data Turn : Type 0 where
   idle : Turn
 
 -- A refusal's "number alone"; or who runs; "a finish adds its lateness".
-pub data Said : Type 0 where
-  refused : ℕ → Said
-  wentOn : Turn → Said
-  finished : ℤ → Turn → Said
+pub data EventReply : Type 0 where
+  refused : ℕ → EventReply
+  wentOn : Turn → EventReply
+  finished : ℤ → Turn → EventReply
 
--- The numbers of the refusals ("When an event is turned away").
-abbrev pub TORN : ℕ
-TORN = 6
-
-abbrev pub BACK : ℕ
-BACK = 7
-
-abbrev pub END : ℕ
-END = 8
-
-abbrev pub NOBODY : ℕ
-NOBODY = 9
-
-abbrev pub ACTIVE : ℕ
-ACTIVE = 10
-
-abbrev pub EARLY : ℕ
-EARLY = 11
-
-abbrev pub HELD : ℕ
-HELD = 12
+-- An event that isn't turned away.
+abbrev pub Accepted : EventReply → Type 0
+Accepted (refused number) = ⊥
+Accepted (wentOn turn) = Unit {0}
+Accepted (finished late turn) = Unit {0}

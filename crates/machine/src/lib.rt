@@ -2,6 +2,9 @@
 ghost use mathlib.Core.Path.{_≡_};
 ghost use Rattle.machine.specs.Order.{whoRuns};
 ghost use Rattle.machine.specs.Leader.{aheadOf, betterOf};
+use table::limits::MOST_HELD;
+use table::limits::MOST_TASKS;
+use table::limits::TASKS;
 
 // What is kept for a task: its job's numbers, all zero where it has none, and the task's last accepted release.
 pub struct Job {
@@ -9,17 +12,17 @@ pub struct Job {
     pub active: u64,
     pub number: u64,
     pub place: u32,
-    pub saved: [u64; 4],
+    pub saved: [u64; MOST_HELD],
     pub last: u64,
 }
 
 // Everything that changes: the clock, the count of accepted releases, which jobs are ready, which tasks have had a release, and a row a task.
-pub struct Now {
+pub struct Kept {
     pub clock: u64,
     pub count: u64,
     pub ready: u32,
     pub had: u32,
-    pub rows: [Job; 16],
+    pub rows: [Job; TASKS],
 }
 
 // Who runs: the task of a ready job, or nobody.
@@ -39,13 +42,7 @@ struct Leader {
 fn ahead(x: Leader, y: Leader) -> bool
     ensures { λ r. ⌜ r ≡ aheadOf x y ⌝ }
 {
-    if x.active < y.active {
-        return true;
-    }
-    if x.active == y.active {
-        return x.number < y.number;
-    }
-    false
+    x.active < y.active || (x.active == y.active && x.number < y.number)
 }
 
 // The better of the best so far and of the next row, which has to be ready.
@@ -66,24 +63,22 @@ fn better(best: Leader, ready: bool, next: Leader) -> Leader
 }
 
 // "The running job is the ready one with the earliest active deadline."
-pub fn who_runs(now: Now) -> Who
-    ensures { λ r. ⌜ r ≡ whoRuns now ⌝ }
+pub fn who_runs(kept: Kept) -> Who
+    ensures { λ r. ⌜ r ≡ whoRuns kept ⌝ }
 {
     let mut best = Leader {
         who: Who::Nobody,
         active: 0,
         number: 0,
     };
-    let mut i: u32 = 0;
-    while i < 16 {
-        let row = now.rows[i as usize];
+    for i in 0..MOST_TASKS {
+        let row = kept.rows[i as usize];
         let next = Leader {
             who: Who::Runs(i),
             active: row.active,
             number: row.number,
         };
-        best = better(best, sets::has(now.ready, i), next);
-        i += 1;
+        best = better(best, sets::has(kept.ready, i), next);
     }
     best.who
 }

@@ -6,7 +6,7 @@ use Rattle.table.specs.Check.{wordIn, checkOf}
 use Rattle.dispatch.specs.State.{zeroState}
 use Rattle.dispatch.specs.Dispatch.{startOf}
 use Rattle.script.specs.Grammar.{commandOf}
-use Rattle.script.specs.Room.{Written}
+use Rattle.text.specs.Room.{Written}
 use Rattle.script.specs.declared.Command.{Command}
 use Rattle.player.specs.Play.{countedOf, sessionBy, answerBy, sessionAfter, answerTo, Plays}
 use Rattle.player.specs.declared.Session.{Session}

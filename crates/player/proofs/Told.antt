@@ -1,4 +1,4 @@
--- What the calls below promise, as this crate's definitions say it: as many words as a length says, and the lines by document 01's numbers. Assumes nothing.
+-- What the calls below promise, as this crate's definitions say it: as many words as a length says, and the lines of the jobs. Assumes nothing.
 use Prim.Native.Nat.{ℕ, suc, _+_, _-_, _≤_, _<_, min}
 use mathlib.Core.Path.{_≡_, refl, sym, ap, _∙_}
 use mathlib.Core.Bool.{Bool, true, false}
@@ -9,22 +9,12 @@ use borrow.Author.Tests.{ltb-true, ltb-false}
 use lib.Dec.{ltb}
 use lib.ListN.{length, take, drop, length-drop, drop-of-length-le}
 use lib.Seq.{take-all, length-take-le}
-use Rattle.table.specs.Said.{Said, saidOf}
-use Rattle.table.specs.declared.Finding.{Finding}
+use Rattle.table.specs.Limits.{mostTasks}
 use Rattle.table.specs.Table.{Table}
-use Rattle.machine.specs.declared.Now.{Now}
-use Rattle.machine.specs.Reply as reply
-use Rattle.dispatch.specs.Heard.{replySaid}
-use Rattle.dispatch.specs.declared.Reply.{Reply}
-use Rattle.verdict.specs.Verdict as verdict
-use Rattle.verdict.specs.Said.{verdictSaid}
-use Rattle.verdict.specs.declared.Verdict.{Verdict}
-use Rattle.script.specs.Room.{Written, Laid}
-use Rattle.script.specs.Lines.{line, findingText, replyText, verdictText}
-use Rattle.script.specs.Said.{saidText, replySaidText, verdictSaidText}
+use Rattle.machine.specs.declared.Kept.{Kept}
+use Rattle.text.specs.Room.{Written, Laid}
 use Rattle.player.specs.Show.{taskText, jobsText}
-use Rattle.script.proofs.Lay.{from-part}
-use Rattle.script.proofs.Saying.{finding-said, reply-said, verdict-said}
+use Rattle.text.proofs.Lay.{from-part}
 
 -- The first words, as many as there are and as a length says.
 pub clamped : (n k : ℕ) (l : List ℕ) → k ≡ min n (length l) → take k l ≡ take n l
@@ -42,30 +32,18 @@ clamped n k l h = go (ltb (length l) n) refl
 pub clamped-length : (n k : ℕ) (l : List ℕ) → k ≡ min n (length l) → k ≡ length (take k l)
 clamped-length n k l h = sym (length-take-le k l (omega arith))
 
--- The lines.
-pub finding-line : (passes : List ℕ) (f : Finding) (s : Said) {b b' : List ℕ} {r : ℕ} → saidOf f ≡ s →
-    Written (line (findingText passes f)) b b' r → Written (line (saidText passes s)) b b' r
-finding-line passes f s e w = rw (finding-said passes f ∙ ap (saidText passes) e) at w
-
-pub reply-line : (a : Reply) (s : reply.Said) {b b' : List ℕ} {r : ℕ} → replySaid a ≡ s →
-    Written (line (replyText a)) b b' r → Written (line (replySaidText s)) b b' r
-reply-line a s e w = rw (reply-said a ∙ ap replySaidText e) at w
-
-pub verdict-line : (v : Verdict) (s : verdict.Said) {b b' : List ℕ} {r : ℕ} → verdictSaid v ≡ s →
-    Written (line (verdictText v)) b b' r → Written (line (verdictSaidText s)) b b' r
-verdict-line v s e w = rw (verdict-said v ∙ ap verdictSaidText e) at w
-
 -- The lines of the tasks from one on: its own, and those of the tasks behind it.
-pub jobs-step : (i : ℕ) (t : Table) (now : Now) → i < 16 → jobsText (16 - i) i t now ≡ taskText t now i ++ jobsText (16 - (i + 1)) (i + 1) t now
+pub jobs-step : (i : ℕ) (t : Table) (kept : Kept) → i < mostTasks →
+    jobsText (mostTasks - i) i t kept ≡ taskText t kept i ++ jobsText (mostTasks - (i + 1)) (i + 1) t kept
 unfolding jobsText
-jobs-step i t now h =
-    let more : 16 - i ≡ suc (16 - (i + 1)) = omega arith in
+jobs-step i t kept h =
+    let more : mostTasks - i ≡ suc (mostTasks - (i + 1)) = omega arith in
     rw (more, ← add-one i)
 
-pub jobs-none : (i : ℕ) (t : Table) (now : Now) → 16 ≤ i → jobsText (16 - i) i t now ≡ []
+pub jobs-none : (i : ℕ) (t : Table) (kept : Kept) → mostTasks ≤ i → jobsText (mostTasks - i) i t kept ≡ []
 unfolding jobsText
-jobs-none i t now h =
-    let none : 16 - i ≡ 0 = omega arith in
+jobs-none i t kept h =
+    let none : mostTasks - i ≡ 0 = omega arith in
     rw none
 
 -- What is written at the start of the part behind a place, lent and come back, is laid from the place on.

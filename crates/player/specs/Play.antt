@@ -1,31 +1,31 @@
 -- One line of a script: what is kept after it, and what is answered (docs/SCRIPT.md). Everything that is said comes from the definitions of the crates below.
 -- Assumes nothing.
-use Prim.Native.Nat.{ℕ, _+_, _%_, _^_}
+use Prim.Native.Nat.{ℕ, suc, _+_, _%_, _^_}
 use mathlib.Core.Path.{_≡_}
 use mathlib.Core.List.{List, []}
 use lib.ListN.{take, replicate}
+use Rattle.table.specs.Limits.{room}
 use Rattle.table.specs.Said.{checkSaid}
 use Rattle.verdict.specs.Verdict.{verdictOf}
 use Rattle.dispatch.specs.State.{zeroState}
 use Rattle.dispatch.specs.Heard.{Heard, Begun}
 use Rattle.dispatch.specs.Dispatch.{startOf, releaseOf, stepOf}
 use Rattle.dispatch.specs.declared.State.{State}
-use Rattle.script.specs.Bytes.{bytes}
+use Rattle.text.specs.Bytes.{bytes}
 use Rattle.script.specs.Grammar.{commandOf, tableOf}
-use Rattle.script.specs.Room.{written, kept, Written}
-use Rattle.script.specs.Lines.{line, wrongText}
-use Rattle.script.specs.Said.{saidText, replySaidText, verdictSaidText}
+use Rattle.text.specs.Room.{written, roomFor, Written}
+use Rattle.lines.specs.Lines.{line, findingText, replyText, verdictText, wrongText}
 use Rattle.script.specs.declared.Command.{Command}
 use Rattle.script.specs.declared.Command.the-variants.{Nothing, Table, Check, Start, Release, Step, Verdict, Show, Wrong}
 use Rattle.player.specs.Show.{showText}
 use Rattle.player.specs.declared.Session.{Session}
 use Rattle.player.specs.declared.Answered.{Answered}
 
--- "A table may have any number of words; those past the 835th cannot change any answer and need not be kept."
+-- "Any number of words may be lent; no table has more than 834." So words past the 835th change no answer and are not kept.
 abbrev pub mostKept : ℕ
-mostKept = 835
+mostKept = suc room
 
--- "Before any `table`, the table is the empty list; before any `start`, the state is the one whose numbers are all zero."
+-- "Before any `table`, the table is the empty list. Before any `start`, the state is the one whose numbers are all zero."
 unfoldable pub firstSession : Session
 firstSession = record { words = replicate mostKept 0; length = 0; state = zeroState; lines = 0 }
 
@@ -41,7 +41,7 @@ countedOf s = record { words = s .words; length = s .length; state = s .state; l
 abbrev pub lending : Session → List ℕ → Session
 lending s l = record {
   words = written (tableOf l) (s .words);
-  length = kept (tableOf l) (s .words);
+  length = roomFor (tableOf l) (s .words);
   state = s .state;
   lines = s .lines;
 }
@@ -66,11 +66,11 @@ sessionBy (Wrong fault) s l = s
 abbrev pub answerBy : Command → Session → List ℕ
 answerBy Nothing s = []
 answerBy (Table count) s = []
-answerBy Check s = line (saidText (bytes "sound") (checkSaid (lentOf s)))
-answerBy Start s = line (saidText (bytes "started") (startOf (lentOf s) .said))
-answerBy (Release i t) s = line (replySaidText (releaseOf (s .state) i t .said))
-answerBy (Step t) s = line (replySaidText (stepOf (s .state) t .said))
-answerBy Verdict s = line (verdictSaidText (verdictOf (lentOf s)))
+answerBy Check s = line (findingText (bytes "sound") (checkSaid (lentOf s)))
+answerBy Start s = line (findingText (bytes "started") (startOf (lentOf s) .said))
+answerBy (Release i t) s = line (replyText (releaseOf (s .state) i t .said))
+answerBy (Step t) s = line (replyText (stepOf (s .state) t .said))
+answerBy Verdict s = line (verdictText (verdictOf (lentOf s)))
 answerBy Show s = showText (s .state)
 answerBy (Wrong fault) s = line (wrongText (s .lines) fault)
 

@@ -1,39 +1,29 @@
 // The answer to one line of a script.
 use crate::Answered;
 use crate::Session;
+use crate::limits::WORDS;
 use crate::show::show;
 use dispatch::Started;
 use dispatch::State;
 use script::Command;
 use table::Finding;
 use verdict::Verdict;
-ghost use Prim.Native.Nat.{min};
 ghost use mathlib.Core.Path.{_≡_};
-ghost use lib.ListN.{length, take};
+ghost use lib.ListN.{take};
 ghost use Rattle.table.specs.Said.{saidOf, checkSaid};
 ghost use Rattle.verdict.specs.Verdict.{verdictOf};
 ghost use Rattle.verdict.specs.Said.{verdictSaid};
 ghost use Rattle.dispatch.specs.Heard.{begunOf};
 ghost use Rattle.dispatch.specs.Dispatch.{startOf, releaseOf, stepOf};
 ghost use Rattle.script.specs.declared.Command.the-variants as command;
-ghost use Rattle.script.specs.Room.{Written};
+ghost use Rattle.text.specs.Room.{Written};
 ghost use Rattle.player.specs.Play.{firstSession, lentOf, countedOf, lending, withState, answerBy, sessionAfter, answerTo, Plays};
-
-// The smaller of two numbers.
-fn lesser(a: usize, b: usize) -> usize
-    ensures { λ r. ⌜ r ≡ min a b ⌝ }
-{
-    if a < b {
-        return a;
-    }
-    b
-}
 
 // The table check on the first words, as many as `length` says.
 fn checked(words: &[u32], length: usize) -> Finding
     ensures { λ r. ⌜ saidOf r ≡ checkSaid (take length (now (words .entry))) ⌝ }
 {
-    let n = lesser(length, words.len());
+    let n = numbers::lesser_usize(length, words.len());
     table::check::check(&words[..n])
 }
 
@@ -41,7 +31,7 @@ fn checked(words: &[u32], length: usize) -> Finding
 fn judged(words: &[u32], length: usize) -> Verdict
     ensures { λ r. ⌜ verdictSaid r ≡ verdictOf (take length (now (words .entry))) ⌝ }
 {
-    let n = lesser(length, words.len());
+    let n = numbers::lesser_usize(length, words.len());
     verdict::judge::verdict(&words[..n])
 }
 
@@ -49,7 +39,7 @@ fn judged(words: &[u32], length: usize) -> Verdict
 fn started(words: &[u32], length: usize) -> Started
     ensures { λ r. ⌜ begunOf r ≡ startOf (take length (now (words .entry))) ⌝ }
 {
-    let n = lesser(length, words.len());
+    let n = numbers::lesser_usize(length, words.len());
     State::start(&words[..n])
 }
 
@@ -57,7 +47,7 @@ fn started(words: &[u32], length: usize) -> Started
 pub fn session() -> Session
     ensures { λ r. ⌜ r ≡ firstSession ⌝ }
 {
-    let words = [0u32; 835];
+    let words = [0u32; WORDS];
     let made = started(&words, 0);
     let state = made.state;
     Session {
@@ -115,7 +105,7 @@ fn check(session: Session, out: &mut [u8]) -> usize
     ensures { λ r. ⌜ Written (answerBy command.Check session) (now (out .entry)) (now (out .exit)) r ⌝ }
 {
     let finding = checked(&session.words, session.length);
-    script::write::write_finding(finding, out)
+    lines::write::write_finding(finding, out)
 }
 
 // `verdict`
@@ -123,7 +113,7 @@ fn verdict(session: Session, out: &mut [u8]) -> usize
     ensures { λ r. ⌜ Written (answerBy command.Verdict session) (now (out .entry)) (now (out .exit)) r ⌝ }
 {
     let judgement = judged(&session.words, session.length);
-    script::write::write_verdict(judgement, out)
+    lines::write::write_verdict(judgement, out)
 }
 
 // `start`
@@ -133,7 +123,7 @@ fn start(session: Session, out: &mut [u8]) -> Answered
     let made = started(&session.words, session.length);
     let state = made.state;
     let finding = made.finding;
-    let bytes = script::write::write_started(finding, out);
+    let bytes = lines::write::write_started(finding, out);
     Answered {
         session: with(session, state),
         bytes,
@@ -148,7 +138,7 @@ fn release(session: Session, task: u32, time: u64, out: &mut [u8]) -> Answered
     let made = state.release(task, time);
     let next = made.state;
     let reply = made.reply;
-    let bytes = script::write::write_reply(reply, out);
+    let bytes = lines::write::write_reply(reply, out);
     Answered {
         session: with(session, next),
         bytes,
@@ -163,7 +153,7 @@ fn step(session: Session, time: u64, out: &mut [u8]) -> Answered
     let made = state.step(time);
     let next = made.state;
     let reply = made.reply;
-    let bytes = script::write::write_reply(reply, out);
+    let bytes = lines::write::write_reply(reply, out);
     Answered {
         session: with(session, next),
         bytes,
@@ -198,7 +188,7 @@ pub fn answer(before: Session, line: &[u8], out: &mut [u8]) -> Answered
             Answered { session, bytes }
         }
         Command::Wrong(fault) => {
-            let bytes = script::write::write_wrong(session.lines, fault, out);
+            let bytes = lines::write::write_wrong(session.lines, fault, out);
             Answered { session, bytes }
         }
     }

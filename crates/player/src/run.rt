@@ -3,12 +3,11 @@
 use crate::Session;
 use crate::answer::answer;
 use crate::answer::session;
-ghost use Prim.Native.Nat.{_≤_, min};
-ghost use mathlib.Core.Path.{_≡_};
+use crate::limits::LINE;
+use crate::limits::MOST_ANSWER;
+use crate::limits::PIECE;
+ghost use Prim.Native.Nat.{_≤_};
 ghost use lib.ListN.{length};
-
-// No answer has more bytes: `show` has a line for the clock and one for each of sixteen jobs.
-const MOST: usize = 8192;
 
 // What is kept between the pieces: the session, how many bytes of a line have come, and how many bytes are to be written out.
 pub struct Feed {
@@ -23,16 +22,6 @@ pub struct Came {
     pub more: bool,
 }
 
-// The smaller of two numbers.
-fn least(a: usize, b: usize) -> usize
-    ensures { λ r. ⌜ r ≡ min a b ⌝ }
-{
-    if a < b {
-        return a;
-    }
-    b
-}
-
 // The place of the next line feed from `at` on, or the end.
 fn line_end(piece: &[u8], at: usize) -> usize
     requires { ⌜ at ≤ length (now piece) ⌝ }
@@ -40,7 +29,7 @@ fn line_end(piece: &[u8], at: usize) -> usize
 {
     let mut i = at;
     while i < piece.len() {
-        if piece[i] == 10 {
+        if piece[i] == b'\n' {
             return i;
         }
         i += 1;
@@ -60,26 +49,22 @@ fn put(room: &mut [u8], at: usize, byte: u8) -> usize {
 // Puts a part of a piece behind what has come of a line.
 fn append(room: &mut [u8], length: usize, part: &[u8]) -> usize {
     let mut at = length;
-    let mut i = 0;
-    while i < part.len() {
+    for i in 0..part.len() {
         at = put(room, at, part[i]);
-        i += 1;
     }
     at
 }
 
 // Writes out what is there.
 fn write_out(out: &[u8], filled: usize) {
-    let n = least(filled, out.len());
+    let n = numbers::lesser_usize(filled, out.len());
     io::write_all(libc::STDOUT_FILENO, &out[..n]);
 }
 
 // Writes out what is there, unless there is room for one more answer.
 fn flushed(out: &[u8], filled: usize) -> usize {
-    if filled < out.len() {
-        if MOST < out.len() - filled {
-            return filled;
-        }
+    if filled < out.len() && MOST_ANSWER <= out.len() - filled {
+        return filled;
     }
     write_out(out, filled);
     0
@@ -87,12 +72,15 @@ fn flushed(out: &[u8], filled: usize) -> usize {
 
 // Answers a line that has come whole.
 fn line_done(room: &[u8], length: usize, out: &mut [u8], feed: Feed) -> Feed {
-    let n = least(length, room.len());
-    let from = least(feed.filled, out.len());
+    let n = numbers::lesser_usize(length, room.len());
+    let from = numbers::lesser_usize(feed.filled, out.len());
     let before = feed.session;
     let done = answer(before, &room[..n], &mut out[from..]);
     let after = done.session;
-    let filled = flushed(out, from + least(done.bytes, out.len() - from));
+    let filled = flushed(
+        out,
+        from + numbers::lesser_usize(done.bytes, out.len() - from),
+    );
     Feed {
         session: after,
         length: 0,
@@ -192,8 +180,8 @@ fn played(piece: &mut [u8], room: &mut [u8], out: &mut [u8]) {
 
 // Plays the script on standard input. The room for a line has one byte more than a line may have.
 pub fn play() {
-    let mut piece = [0u8; 65536];
-    let mut room = [0u8; 65537];
-    let mut out = [0u8; 65536];
+    let mut piece = [0u8; PIECE];
+    let mut room = [0u8; LINE];
+    let mut out = [0u8; PIECE];
     played(&mut piece, &mut room, &mut out);
 }

@@ -1,17 +1,18 @@
 // `show`: the clock, and a line for each ready job.
 use dispatch::State;
+use lines::Doing;
 use machine::Job;
-use machine::Now;
-use script::Doing;
+use machine::Kept;
 use table::Map;
 use table::Next;
+use table::limits::MOST_TASKS;
 ghost use Prim.Native.Nat.{_<_};
 ghost use mathlib.Core.Path.{_≡_};
 ghost use lib.ListN.{take};
 ghost use Rattle.table.specs.Table.{taskOf};
 ghost use Rattle.table.specs.Limits.{mostTasks};
 ghost use Rattle.table.specs.Map.{tableAt, mapOf};
-ghost use Rattle.script.specs.Room.{Written, Laid};
+ghost use Rattle.text.specs.Room.{Written, Laid};
 ghost use Rattle.player.specs.Show.{doingAt, rowText, taskText, jobsText, linesText, showText};
 
 // What a job does next.
@@ -32,7 +33,7 @@ fn put_row(words: &[u32], map: Map, task: u32, job: Job, out: &mut [u8], at: usi
     if at < out.len() {
         let held = readers::held(words, map, task, job.place);
         let next = doing(words, map, task, job.place);
-        let bytes = script::write::write_job(
+        let bytes = lines::write::write_job(
             task,
             job.base,
             job.active,
@@ -47,7 +48,7 @@ fn put_row(words: &[u32], map: Map, task: u32, job: Job, out: &mut [u8], at: usi
 }
 
 // A task's line, if its job is ready.
-fn put_task(words: &[u32], map: Map, task: u32, kept: Now, out: &mut [u8], at: usize) -> usize
+fn put_task(words: &[u32], map: Map, task: u32, kept: Kept, out: &mut [u8], at: usize) -> usize
     requires { ⌜ task < mostTasks ⌝ }
     ensures { λ r. ⌜ Laid (taskText (tableAt (now (words .entry)) map) kept task) (now (out .entry)) at (now (out .exit)) r ⌝ }
 {
@@ -60,30 +61,28 @@ fn put_task(words: &[u32], map: Map, task: u32, kept: Now, out: &mut [u8], at: u
 }
 
 // The lines of all the tasks, by rising number.
-fn put_tasks(words: &[u32], map: Map, kept: Now, out: &mut [u8], from: usize) -> usize
+fn put_tasks(words: &[u32], map: Map, kept: Kept, out: &mut [u8], from: usize) -> usize
     ensures { λ r. ⌜ Laid (jobsText mostTasks 0 (tableAt (now (words .entry)) map) kept) (now (out .entry)) from (now (out .exit)) r ⌝ }
 {
     let mut at = from;
-    let mut task: u32 = 0;
-    while task < 16 {
+    for task in 0..MOST_TASKS {
         at = put_task(words, map, task, kept, out, at);
-        task += 1;
     }
     at
 }
 
 // All the lines, by the words of the state's table.
-fn lines(words: &[u32], kept: Now, out: &mut [u8]) -> usize
+fn lines(words: &[u32], kept: Kept, out: &mut [u8]) -> usize
     ensures { λ r. ⌜ Written (linesText (tableAt (now (words .entry)) (mapOf (now (words .entry)))) kept) (now (out .entry)) (now (out .exit)) r ⌝ }
 {
     let survey = table::check::survey(words);
     let map = survey.map;
-    let bytes = script::write::write_clock(kept.clock, out);
+    let bytes = lines::write::write_clock(kept.clock, out);
     put_tasks(words, map, kept, out, bytes)
 }
 
 // The same by as many of the words as a length says.
-fn lines_of(words: &[u32], length: usize, kept: Now, out: &mut [u8]) -> usize
+fn lines_of(words: &[u32], length: usize, kept: Kept, out: &mut [u8]) -> usize
     ensures { λ r. ⌜ Written (linesText (tableAt (take length (now (words .entry))) (mapOf (take length (now (words .entry))))) kept) (now (out .entry)) (now (out .exit)) r ⌝ }
 {
     if length < words.len() {
@@ -96,6 +95,6 @@ fn lines_of(words: &[u32], length: usize, kept: Now, out: &mut [u8]) -> usize
 pub fn show(state: State, out: &mut [u8]) -> usize
     ensures { λ r. ⌜ Written (showText state) (now (out .entry)) (now (out .exit)) r ⌝ }
 {
-    let kept = state.now;
+    let kept = state.kept;
     lines_of(&state.words, state.length, kept, out)
 }

@@ -14,41 +14,22 @@ use borrow.Author.Tests.{ltb-true, ltb-false, eq-eqb, ne-eqb}
 use Rattle.sets.specs.Member.{width, has, withOf}
 use Rattle.sets.proofs.Digit.{same-everywhere}
 use Rattle.sets.proofs.Change.{with-beyond, has-with}
-use Rattle.table.specs.Limits.{mostTasks, mostSteps}
+use Rattle.table.specs.Limits.{mostTasks, mostSteps, atSteps, atPlan, stepSize, atResource, atLength}
 use Rattle.table.specs.Table.{Step, unlock, taskOf}
 use Rattle.table.specs.Held.{Section, heldAfter, heldFrom, heldBy, heldSet}
 use Rattle.table.specs.Map.{stepsAt, taskAt, tableAt}
 use Rattle.table.specs.declared.Map.{Map}
-use Rattle.readers.proofs.Raw.{task-at, steps-length, stepAt, stepBy, step-by}
+use Rattle.table.proofs.Laid.{steps-length, stepAt, held-none, held-more}
+use Rattle.readers.proofs.Raw.{task-at, stepBy, step-by}
 
 -- ---- one step more
 
-held-append : (held : List Section) (steps : List Step) (s : Step) → heldFrom held (steps ++ (s ∷ [])) ≡ heldAfter s (heldFrom held steps)
-unfolding heldFrom
-held-append held [] s = refl
-held-append held (q ∷ steps) s = held-append (heldAfter q held) steps s
-
-steps-snoc : (n : ℕ) (ws : List ℕ) (at : ℕ) → stepsAt (suc n) ws at ≡ stepsAt n ws at ++ (stepAt ws (at + 3 * n) ∷ [])
-unfolding stepsAt
-steps-snoc zero ws at =
-    let e : at ≡ at + 3 * zero = omega arith in
-    ap (λ (place : ℕ). stepAt ws place ∷ []) e
-steps-snoc (suc n) ws at =
-    let e : at + 3 + 3 * n ≡ at + 3 * suc n = omega arith in
-    ap (λ (steps : List Step). stepAt ws at ∷ steps) (steps-snoc n ws (at + 3) ∙ ap (λ (place : ℕ). stepsAt n ws (at + 3) ++ (stepAt ws place ∷ [])) e)
-
 -- what the first n steps of the task that starts at a place hold
 abbrev pub heldAt : List ℕ → ℕ → ℕ → List Section
-heldAt ws at n = heldFrom [] (stepsAt n ws (at + 4))
+heldAt ws at n = heldFrom [] (stepsAt n ws (at + atPlan))
 
-held-none : (ws : List ℕ) (at : ℕ) → heldAt ws at zero ≡ []
-unfolding stepsAt heldFrom
-held-none ws at = refl
-
-held-more : (ws : List ℕ) (at n : ℕ) → heldAt ws at (suc n) ≡ heldAfter (stepBy ws at (4 + 3 * n)) (heldAt ws at n)
-held-more ws at n =
-    ap (heldFrom []) (steps-snoc n ws (at + 4)) ∙ held-append [] (stepsAt n ws (at + 4)) (stepAt ws (at + 4 + 3 * n))
-    ∙ ap (λ (s : Step). heldAfter s (heldAt ws at n)) (step-by ws at n)
+held-by : (ws : List ℕ) (at n : ℕ) → heldAt ws at (suc n) ≡ heldAfter (stepBy ws at (atPlan + stepSize * n)) (heldAt ws at n)
+held-by ws at n = held-more ws (at + atPlan) n ∙ ap (λ (s : Step). heldAfter s (heldAt ws at n)) (step-by ws at n)
 
 -- ---- the order in which members come to a set does not matter
 
@@ -103,37 +84,37 @@ pub walk-start : (ws : List ℕ) (at n : ℕ) → heldOn 0 (drop 0 (heldAt ws at
 walk-start ws at n = on-zero (heldAt ws at n)
 
 pub walk-end : (ws : List ℕ) (at set closing : ℕ) → heldOn set (drop closing (heldAt ws at 0)) ≡ set
-walk-end ws at set closing = rw (held-none ws at, drop-none {A = Section} closing) (on-none set)
+walk-end ws at set closing = rw (held-none ws (at + atPlan), drop-none {A = Section} closing) (on-none set)
 
 -- a lock that no unlock closes; one that the nearest unlock behind it closes; an unlock. The step is the last of the `left` steps.
-pub walk-lock : (ws : List ℕ) (at set closing left : ℕ) → 0 < left → closing ≡ 0 → getD ws (at + (4 + 3 * (left - 1))) 0 ≡ 1
-    → heldOn (withOf width set (getD ws (at + (4 + 3 * (left - 1) + 1)) 0)) (drop closing (heldAt ws at (left - 1)))
+pub walk-lock : (ws : List ℕ) (at set closing left : ℕ) → 0 < left → closing ≡ 0 → getD ws (at + (atPlan + stepSize * (left - 1))) 0 ≡ 1
+    → heldOn (withOf width set (getD ws (at + (atPlan + stepSize * (left - 1) + atResource)) 0)) (drop closing (heldAt ws at (left - 1)))
     ≡ heldOn set (drop closing (heldAt ws at left))
 walk-lock ws at set closing zero l z e = absurd (not-suc-le-zero l)
 walk-lock ws at set (suc closing) (suc n) l z e = absurd (omega arith)
 walk-lock ws at set zero (suc n) l z e =
     let m : suc n - 1 ≡ n = omega arith in
-    let one : getD ws (at + (4 + 3 * n)) 0 ≡ 1 = rw m at e in
-    rw (m, held-more ws at n, eq-eqb (getD ws (at + (4 + 3 * n)) 0) 1 one)
-    (sym (on-more set (getD ws (at + (4 + 3 * n + 1)) 0) (getD ws (at + (4 + 3 * n + 2)) 0) (heldAt ws at n)))
+    let one : getD ws (at + (atPlan + stepSize * n)) 0 ≡ 1 = rw m at e in
+    rw (m, held-by ws at n, eq-eqb (getD ws (at + (atPlan + stepSize * n)) 0) 1 one)
+    (sym (on-more set (getD ws (at + (atPlan + stepSize * n + atResource)) 0) (getD ws (at + (atPlan + stepSize * n + atLength)) 0) (heldAt ws at n)))
 
-pub walk-closed : (ws : List ℕ) (at set closing left : ℕ) → 0 < left → (closing ≡ 0 → ⊥) → getD ws (at + (4 + 3 * (left - 1))) 0 ≡ 1
+pub walk-closed : (ws : List ℕ) (at set closing left : ℕ) → 0 < left → (closing ≡ 0 → ⊥) → getD ws (at + (atPlan + stepSize * (left - 1))) 0 ≡ 1
     → heldOn set (drop (closing - 1) (heldAt ws at (left - 1))) ≡ heldOn set (drop closing (heldAt ws at left))
 walk-closed ws at set closing zero l z e = absurd (not-suc-le-zero l)
 walk-closed ws at set zero (suc n) l z e = absurd (z refl)
 walk-closed ws at set (suc closing) (suc n) l z e =
     let m : suc n - 1 ≡ n = omega arith in
     let d : suc closing - 1 ≡ closing = omega arith in
-    let one : getD ws (at + (4 + 3 * n)) 0 ≡ 1 = rw m at e in
-    rw (m, d, held-more ws at n, eq-eqb (getD ws (at + (4 + 3 * n)) 0) 1 one)
+    let one : getD ws (at + (atPlan + stepSize * n)) 0 ≡ 1 = rw m at e in
+    rw (m, d, held-by ws at n, eq-eqb (getD ws (at + (atPlan + stepSize * n)) 0) 1 one)
 
-pub walk-unlock : (ws : List ℕ) (at set closing left : ℕ) → 0 < left → (getD ws (at + (4 + 3 * (left - 1))) 0 ≡ 1 → ⊥)
+pub walk-unlock : (ws : List ℕ) (at set closing left : ℕ) → 0 < left → (getD ws (at + (atPlan + stepSize * (left - 1))) 0 ≡ 1 → ⊥)
     → heldOn set (drop (closing + 1) (heldAt ws at (left - 1))) ≡ heldOn set (drop closing (heldAt ws at left))
 walk-unlock ws at set closing zero l e = absurd (not-suc-le-zero l)
 walk-unlock ws at set closing (suc n) l e =
     let m : suc n - 1 ≡ n = omega arith in
-    let other : getD ws (at + (4 + 3 * n)) 0 ≡ 1 → ⊥ = rw m at e in
-    rw (m, add-one closing, held-more ws at n, ne-eqb (getD ws (at + (4 + 3 * n)) 0) 1 other)
+    let other : getD ws (at + (atPlan + stepSize * n)) 0 ≡ 1 → ⊥ = rw m at e in
+    rw (m, add-one closing, held-by ws at n, ne-eqb (getD ws (at + (atPlan + stepSize * n)) 0) 1 other)
     (ap (heldOn set) (sym (drop-unlock closing (heldAt ws at n))))
 
 -- ---- the first steps of a task's plan
@@ -142,13 +123,13 @@ steps-take : (k n : ℕ) (ws : List ℕ) (at : ℕ) → take k (stepsAt n ws at)
 unfolding stepsAt
 steps-take zero n ws at = rw (zero-min n)
 steps-take (suc k) zero ws at = rw (min-zero (suc k))
-steps-take (suc k) (suc n) ws at = rw (suc-min-suc k n) (ap (λ (steps : List Step). stepAt ws at ∷ steps) (steps-take k n ws (at + 3)))
+steps-take (suc k) (suc n) ws at = rw (suc-min-suc k n) (ap (λ (steps : List Step). stepAt ws at ∷ steps) (steps-take k n ws (at + stepSize)))
 
 plan-held : (ws : List ℕ) (at k : ℕ) → heldBy (taskAt ws at .plan) k ≡ heldAt ws at (min k (length (taskAt ws at .plan)))
 unfolding taskAt
 plan-held ws at k =
-    let n = min (getD ws (at + 3) 0) mostSteps in
-    ap (heldFrom []) (steps-take k n ws (at + 4)) ∙ ap (λ (m : ℕ). heldAt ws at (min k m)) (sym (steps-length n ws (at + 4)))
+    let n = min (getD ws (at + atSteps) 0) mostSteps in
+    ap (heldFrom []) (steps-take k n ws (at + atPlan)) ∙ ap (λ (m : ℕ). heldAt ws at (min k m)) (sym (steps-length n ws (at + atPlan)))
 
 pub held-at : (ws : List ℕ) (map : Map) (i k : ℕ) → i < min (map .tasks) mostTasks
     → heldBy (taskOf (tableAt ws map) i .plan) k ≡ heldAt ws (getD (map .starts) i 0) (min k (length (taskOf (tableAt ws map) i .plan)))

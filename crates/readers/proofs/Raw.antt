@@ -10,12 +10,13 @@ use native.Mathlib.Omega.{arith}
 use lib.Dec.{ltb}
 use lib.ListN.{length, getD, List·getD-eq-default}
 use borrow.Author.Tests.{ltb-true, ltb-false, eq-eqb, ne-eqb}
-use Rattle.table.specs.Limits.{mostTasks, mostSteps}
+use Rattle.table.specs.Limits.{mostTasks, mostSteps, atPeriod, atDeadline, atCost, atSteps, atPlan, stepSize, atResource, atLength}
 use Rattle.table.specs.Table.{Step, lock, unlock, Task, noTask, tasksOf, taskOf}
 use Rattle.table.specs.Check.{stepSaid}
 use Rattle.table.specs.Floor.{stepLocks, locks, uses}
 use Rattle.table.specs.Map.{stepsAt, taskAt, tasksAt, tableAt, nextOf}
 use Rattle.table.specs.declared.Map.{Map}
+use Rattle.table.proofs.Laid.{steps-length, stepAt, step-at}
 use Rattle.table.specs.declared.Next.{Next}
 use Rattle.table.specs.declared.Next.the-variants.{Lock, Unlock, Finish}
 
@@ -29,10 +30,6 @@ tasks-length (suc n) i ws starts = ap suc (tasks-length n (suc i) ws starts)
 pub tasks-at : (ws : List ℕ) (map : Map) → tasksOf (tableAt ws map) ≡ min (map .tasks) mostTasks
 unfolding tableAt
 tasks-at ws map = tasks-length (min (map .tasks) mostTasks) 0 ws (map .starts)
-
-pub resources-at : (ws : List ℕ) (map : Map) → tableAt ws map .resources ≡ map .resources
-unfolding tableAt
-resources-at ws map = refl
 
 task-from : (n i k : ℕ) (ws starts : List ℕ) → k < n → getD (tasksAt n i ws starts) k noTask ≡ taskAt ws (getD starts (i + k) 0)
 unfolding tasksAt
@@ -69,52 +66,29 @@ figure f ws map i = go (ltb i (min (map .tasks) mostTasks)) refl
 abbrev pub fieldAt : List ℕ → Map → ℕ → ℕ → ℕ
 fieldAt ws map i offset = cond (ltb i (min (map .tasks) mostTasks)) (getD ws (getD (map .starts) i 0 + offset) 0) 0
 
--- ---- the steps of a plan
-
-pub steps-length : (n : ℕ) (ws : List ℕ) (at : ℕ) → length (stepsAt n ws at) ≡ n
-unfolding stepsAt
-steps-length zero ws at = refl
-steps-length (suc n) ws at = ap suc (steps-length n ws (at + 3))
-
--- the step whose three words start at a place
-abbrev pub stepAt : List ℕ → ℕ → Step
-stepAt ws at = stepSaid (getD ws at 0) (getD ws (at + 1) 0) (getD ws (at + 2) 0)
-
-pub step-at : (n k : ℕ) (ws : List ℕ) (at : ℕ) → k < n → getD (stepsAt n ws at) k unlock ≡ stepAt ws (at + 3 * k)
-unfolding stepsAt
-step-at zero k ws at l = absurd (not-suc-le-zero l)
-step-at (suc n) zero ws at l =
-    let e : at ≡ at + 3 * zero = omega arith in
-    ap (stepAt ws) e
-step-at (suc n) (suc k) ws at l =
-    let e : at + 3 + 3 * k ≡ at + 3 * suc k = omega arith in
-    step-at n k ws (at + 3) (le-of-suc-le-suc l) ∙ ap (stepAt ws) e
-
 -- ---- a task's first words
 
-pub period-at : (ws : List ℕ) (map : Map) (i : ℕ) → fieldAt ws map i 0 ≡ taskOf (tableAt ws map) i .T
+pub period-at : (ws : List ℕ) (map : Map) (i : ℕ) → fieldAt ws map i atPeriod ≡ taskOf (tableAt ws map) i .T
 unfolding taskAt
-period-at ws map i =
-    let e : getD (map .starts) i 0 + 0 ≡ getD (map .starts) i 0 = omega arith in
-    ap (λ (at : ℕ). cond (ltb i (min (map .tasks) mostTasks)) (getD ws at 0) 0) e ∙ figure (λ (task : Task). task .T) ws map i
+period-at ws map i = figure (λ (task : Task). task .T) ws map i
 
-pub deadline-at : (ws : List ℕ) (map : Map) (i : ℕ) → fieldAt ws map i 1 ≡ taskOf (tableAt ws map) i .D
+pub deadline-at : (ws : List ℕ) (map : Map) (i : ℕ) → fieldAt ws map i atDeadline ≡ taskOf (tableAt ws map) i .D
 unfolding taskAt
 deadline-at ws map i = figure (λ (task : Task). task .D) ws map i
 
-pub cost-at : (ws : List ℕ) (map : Map) (i : ℕ) → fieldAt ws map i 2 ≡ taskOf (tableAt ws map) i .C
+pub cost-at : (ws : List ℕ) (map : Map) (i : ℕ) → fieldAt ws map i atCost ≡ taskOf (tableAt ws map) i .C
 unfolding taskAt
 cost-at ws map i = figure (λ (task : Task). task .C) ws map i
 
-pub plan-length : (ws : List ℕ) (at : ℕ) → length (taskAt ws at .plan) ≡ min (getD ws (at + 3) 0) mostSteps
+pub plan-length : (ws : List ℕ) (at : ℕ) → length (taskAt ws at .plan) ≡ min (getD ws (at + atSteps) 0) mostSteps
 unfolding taskAt
-plan-length ws at = steps-length (min (getD ws (at + 3) 0) mostSteps) ws (at + 4)
+plan-length ws at = steps-length (min (getD ws (at + atSteps) 0) mostSteps) ws (at + atPlan)
 
-pub steps-at : (ws : List ℕ) (map : Map) (i : ℕ) → min (fieldAt ws map i 3) mostSteps ≡ length (taskOf (tableAt ws map) i .plan)
+pub steps-at : (ws : List ℕ) (map : Map) (i : ℕ) → min (fieldAt ws map i atSteps) mostSteps ≡ length (taskOf (tableAt ws map) i .plan)
 steps-at ws map i = go (ltb i (min (map .tasks) mostTasks)) refl
   where
     go : (b : Bool) → ltb i (min (map .tasks) mostTasks) ≡ b
-        → min (cond b (getD ws (getD (map .starts) i 0 + 3) 0) 0) mostSteps ≡ length (taskOf (tableAt ws map) i .plan)
+        → min (cond b (getD ws (getD (map .starts) i 0 + atSteps) 0) 0) mostSteps ≡ length (taskOf (tableAt ws map) i .plan)
     go true e = rw (task-at ws map i (ltb-true i (min (map .tasks) mostTasks) e)) (sym (plan-length ws (getD (map .starts) i 0)))
     go false e = rw (task-none ws map i (ltb-false i (min (map .tasks) mostTasks) e))
 
@@ -138,13 +112,13 @@ some-step ws map i k l = go (ltb i (min (map .tasks) mostTasks)) refl
 -- ---- a step by the words that a reader asks for: `first` is where the step starts, counted from its task's start
 
 abbrev pub stepBy : List ℕ → ℕ → ℕ → Step
-stepBy ws at first = stepSaid (getD ws (at + first) 0) (getD ws (at + (first + 1)) 0) (getD ws (at + (first + 2)) 0)
+stepBy ws at first = stepSaid (getD ws (at + first) 0) (getD ws (at + (first + atResource)) 0) (getD ws (at + (first + atLength)) 0)
 
-pub step-by : (ws : List ℕ) (at k : ℕ) → stepAt ws (at + 4 + 3 * k) ≡ stepBy ws at (4 + 3 * k)
+pub step-by : (ws : List ℕ) (at k : ℕ) → stepAt ws (at + atPlan + stepSize * k) ≡ stepBy ws at (atPlan + stepSize * k)
 step-by ws at k =
-    let e₀ : at + 4 + 3 * k ≡ at + (4 + 3 * k) = omega arith in
-    let e₁ : at + 4 + 3 * k + 1 ≡ at + (4 + 3 * k + 1) = omega arith in
-    let e₂ : at + 4 + 3 * k + 2 ≡ at + (4 + 3 * k + 2) = omega arith in
+    let e₀ : at + atPlan + stepSize * k ≡ at + (atPlan + stepSize * k) = omega arith in
+    let e₁ : at + atPlan + stepSize * k + atResource ≡ at + (atPlan + stepSize * k + atResource) = omega arith in
+    let e₂ : at + atPlan + stepSize * k + atLength ≡ at + (atPlan + stepSize * k + atLength) = omega arith in
     rw (e₁, e₂, e₀)
 
 -- what a plan's step says as an answer
@@ -160,58 +134,50 @@ next-there (unlock ∷ plan) zero l = refl
 next-there (lock r len ∷ plan) (suc k) l = next-there plan k (le-of-suc-le-suc l)
 next-there (unlock ∷ plan) (suc k) l = next-there plan k (le-of-suc-le-suc l)
 
-pub next-end : (plan : List Step) (k : ℕ) → length plan ≤ k → nextOf plan k ≡ Finish
-unfolding nextOf
-next-end [] k l = refl
-next-end (lock r len ∷ plan) zero l = absurd (not-suc-le-zero l)
-next-end (unlock ∷ plan) zero l = absurd (not-suc-le-zero l)
-next-end (lock r len ∷ plan) (suc k) l = next-end plan k (le-of-suc-le-suc l)
-next-end (unlock ∷ plan) (suc k) l = next-end plan k (le-of-suc-le-suc l)
-
 -- a step of a plan as it lies
-pub plan-step : (ws : List ℕ) (at k : ℕ) → k < length (taskAt ws at .plan) → getD (taskAt ws at .plan) k unlock ≡ stepBy ws at (4 + 3 * k)
+pub plan-step : (ws : List ℕ) (at k : ℕ) → k < length (taskAt ws at .plan) → getD (taskAt ws at .plan) k unlock ≡ stepBy ws at (atPlan + stepSize * k)
 unfolding taskAt
 plan-step ws at k l =
-    let n = min (getD ws (at + 3) 0) mostSteps in
-    step-at n k ws (at + 4) (rw (steps-length n ws (at + 4)) at l) ∙ step-by ws at k
+    let n = min (getD ws (at + atSteps) 0) mostSteps in
+    step-at n k ws (at + atPlan) (rw (steps-length n ws (at + atPlan)) at l) ∙ step-by ws at k
 
 -- the step of a task's plan at a place, where it has one
 pub next-at : (ws : List ℕ) (map : Map) (i k : ℕ) → k < length (taskOf (tableAt ws map) i .plan)
-    → nextOf (taskOf (tableAt ws map) i .plan) k ≡ nextSaid (stepBy ws (getD (map .starts) i 0) (4 + 3 * k))
+    → nextOf (taskOf (tableAt ws map) i .plan) k ≡ nextSaid (stepBy ws (getD (map .starts) i 0) (atPlan + stepSize * k))
 next-at ws map i k l =
     let e : taskOf (tableAt ws map) i ≡ taskAt ws (getD (map .starts) i 0) = task-at ws map i (some-step ws map i k l) in
     rw e (next-there (taskAt ws (getD (map .starts) i 0) .plan) k (rw e at l) ∙ ap nextSaid (plan-step ws (getD (map .starts) i 0) k (rw e at l)))
 
 -- and as a reader finds it: the task's start, the step's kind, and behind it the two others of its words
 pub next-lock : (ws : List ℕ) (map : Map) (i k : ℕ) {at kind r l : ℕ} → k < length (taskOf (tableAt ws map) i .plan)
-    → at ≡ getD (map .starts) i 0 → kind ≡ getD ws (at + (4 + 3 * k)) 0 → kind ≡ 1
-    → r ≡ getD ws (at + (4 + 3 * k + 1)) 0 → l ≡ getD ws (at + (4 + 3 * k + 2)) 0 → Lock r l ≡ nextOf (taskOf (tableAt ws map) i .plan) k
+    → at ≡ getD (map .starts) i 0 → kind ≡ getD ws (at + (atPlan + stepSize * k)) 0 → kind ≡ 1
+    → r ≡ getD ws (at + (atPlan + stepSize * k + atResource)) 0 → l ≡ getD ws (at + (atPlan + stepSize * k + atLength)) 0 → Lock r l ≡ nextOf (taskOf (tableAt ws map) i .plan) k
 next-lock ws map i k {at} {kind} {r} {l} h a q one b d =
-    let e : getD ws (at + (4 + 3 * k)) 0 ≡ 1 = sym q ∙ one in
-    let said : nextSaid (stepBy ws at (4 + 3 * k)) ≡ Lock r l = rw (eq-eqb (getD ws (at + (4 + 3 * k)) 0) 1 e, ← b, ← d) in
+    let e : getD ws (at + (atPlan + stepSize * k)) 0 ≡ 1 = sym q ∙ one in
+    let said : nextSaid (stepBy ws at (atPlan + stepSize * k)) ≡ Lock r l = rw (eq-eqb (getD ws (at + (atPlan + stepSize * k)) 0) 1 e, ← b, ← d) in
     sym (next-at ws map i k h ∙ rw (← a) said)
 
 pub next-unlock : (ws : List ℕ) (map : Map) (i k : ℕ) {at kind : ℕ} → k < length (taskOf (tableAt ws map) i .plan)
-    → at ≡ getD (map .starts) i 0 → kind ≡ getD ws (at + (4 + 3 * k)) 0 → (kind ≡ 1 → ⊥) → Unlock ≡ nextOf (taskOf (tableAt ws map) i .plan) k
+    → at ≡ getD (map .starts) i 0 → kind ≡ getD ws (at + (atPlan + stepSize * k)) 0 → (kind ≡ 1 → ⊥) → Unlock ≡ nextOf (taskOf (tableAt ws map) i .plan) k
 next-unlock ws map i k {at} {kind} h a q other =
-    let said : nextSaid (stepBy ws at (4 + 3 * k)) ≡ Unlock = rw (ne-eqb (getD ws (at + (4 + 3 * k)) 0) 1 (λ e. other (q ∙ e))) in
+    let said : nextSaid (stepBy ws at (atPlan + stepSize * k)) ≡ Unlock = rw (ne-eqb (getD ws (at + (atPlan + stepSize * k)) 0) 1 (λ e. other (q ∙ e))) in
     sym (next-at ws map i k h ∙ rw (← a) said)
 
 -- ---- whether a plan locks a resource, step by step
 
-pub locks-step : (n : ℕ) (ws : List ℕ) (at r : ℕ) → locks (stepsAt (suc n) ws at) r ≡ (stepLocks (stepAt ws at) r || locks (stepsAt n ws (at + 3)) r)
+pub locks-step : (n : ℕ) (ws : List ℕ) (at r : ℕ) → locks (stepsAt (suc n) ws at) r ≡ (stepLocks (stepAt ws at) r || locks (stepsAt n ws (at + stepSize)) r)
 unfolding stepsAt locks
 locks-step n ws at r = refl
 
 -- what is left of a plan from its k-th step on
 abbrev pub locksFrom : List ℕ → ℕ → ℕ → ℕ → ℕ → Bool
-locksFrom ws at r n k = locks (stepsAt (n - k) ws (at + 4 + 3 * k)) r
+locksFrom ws at r n k = locks (stepsAt (n - k) ws (at + atPlan + stepSize * k)) r
 
-pub locks-from : (ws : List ℕ) (at r n k : ℕ) → k < n → locksFrom ws at r n k ≡ (stepLocks (stepBy ws at (4 + 3 * k)) r || locksFrom ws at r n (k + 1))
+pub locks-from : (ws : List ℕ) (at r n k : ℕ) → k < n → locksFrom ws at r n k ≡ (stepLocks (stepBy ws at (atPlan + stepSize * k)) r || locksFrom ws at r n (k + 1))
 locks-from ws at r n k l =
     let e : n - k ≡ suc (n - (k + 1)) = omega arith in
-    let f : at + 4 + 3 * k + 3 ≡ at + 4 + 3 * (k + 1) = omega arith in
-    rw (e, locks-step (n - (k + 1)) ws (at + 4 + 3 * k) r, f, step-by ws at k)
+    let f : at + atPlan + stepSize * k + stepSize ≡ at + atPlan + stepSize * (k + 1) = omega arith in
+    rw (e, locks-step (n - (k + 1)) ws (at + atPlan + stepSize * k) r, f, step-by ws at k)
 
 pub locks-none : (ws : List ℕ) (at r n k : ℕ) → n ≤ k → locksFrom ws at r n k ≡ false
 unfolding stepsAt locks
@@ -219,23 +185,23 @@ locks-none ws at r n k l =
     let e : n - k ≡ 0 = omega arith in
     rw e
 
-pub locks-all : (ws : List ℕ) (at r : ℕ) → locksFrom ws at r (min (getD ws (at + 3) 0) mostSteps) 0 ≡ uses (taskAt ws at) r
+pub locks-all : (ws : List ℕ) (at r : ℕ) → locksFrom ws at r (min (getD ws (at + atSteps) 0) mostSteps) 0 ≡ uses (taskAt ws at) r
 unfolding taskAt
 locks-all ws at r =
-    let n = min (getD ws (at + 3) 0) mostSteps in
+    let n = min (getD ws (at + atSteps) 0) mostSteps in
     let e : n - 0 ≡ n = omega arith in
-    let f : at + 4 + 3 * 0 ≡ at + 4 = omega arith in
+    let f : at + atPlan + stepSize * 0 ≡ at + atPlan = omega arith in
     rw (e, f)
 
 -- a lock of the resource; a lock of another; an unlock
-pub locks-here : (ws : List ℕ) (at r n k : ℕ) → k < n → getD ws (at + (4 + 3 * k)) 0 ≡ 1 → getD ws (at + (4 + 3 * k + 1)) 0 ≡ r → locksFrom ws at r n k ≡ true
+pub locks-here : (ws : List ℕ) (at r n k : ℕ) → k < n → getD ws (at + (atPlan + stepSize * k)) 0 ≡ 1 → getD ws (at + (atPlan + stepSize * k + atResource)) 0 ≡ r → locksFrom ws at r n k ≡ true
 locks-here ws at r n k l one e =
-    locks-from ws at r n k l ∙ rw (eq-eqb (getD ws (at + (4 + 3 * k)) 0) 1 one, eq-eqb (getD ws (at + (4 + 3 * k + 1)) 0) r e)
+    locks-from ws at r n k l ∙ rw (eq-eqb (getD ws (at + (atPlan + stepSize * k)) 0) 1 one, eq-eqb (getD ws (at + (atPlan + stepSize * k + atResource)) 0) r e)
 
-pub locks-other : (ws : List ℕ) (at r n k : ℕ) → k < n → getD ws (at + (4 + 3 * k)) 0 ≡ 1 → (getD ws (at + (4 + 3 * k + 1)) 0 ≡ r → ⊥)
+pub locks-other : (ws : List ℕ) (at r n k : ℕ) → k < n → getD ws (at + (atPlan + stepSize * k)) 0 ≡ 1 → (getD ws (at + (atPlan + stepSize * k + atResource)) 0 ≡ r → ⊥)
     → locksFrom ws at r n k ≡ locksFrom ws at r n (k + 1)
 locks-other ws at r n k l one e =
-    locks-from ws at r n k l ∙ rw (eq-eqb (getD ws (at + (4 + 3 * k)) 0) 1 one, ne-eqb (getD ws (at + (4 + 3 * k + 1)) 0) r e)
+    locks-from ws at r n k l ∙ rw (eq-eqb (getD ws (at + (atPlan + stepSize * k)) 0) 1 one, ne-eqb (getD ws (at + (atPlan + stepSize * k + atResource)) 0) r e)
 
-pub locks-unlock : (ws : List ℕ) (at r n k : ℕ) → k < n → (getD ws (at + (4 + 3 * k)) 0 ≡ 1 → ⊥) → locksFrom ws at r n k ≡ locksFrom ws at r n (k + 1)
-locks-unlock ws at r n k l e = locks-from ws at r n k l ∙ rw (ne-eqb (getD ws (at + (4 + 3 * k)) 0) 1 e)
+pub locks-unlock : (ws : List ℕ) (at r n k : ℕ) → k < n → (getD ws (at + (atPlan + stepSize * k)) 0 ≡ 1 → ⊥) → locksFrom ws at r n k ≡ locksFrom ws at r n (k + 1)
+locks-unlock ws at r n k l e = locks-from ws at r n k l ∙ rw (ne-eqb (getD ws (at + (atPlan + stepSize * k)) 0) 1 e)

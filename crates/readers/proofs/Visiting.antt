@@ -11,30 +11,18 @@ use native.Mathlib.Omega.{arith}
 use lib.Count.{trailingZeros}
 use lib.ListN.{length, getD}
 use Rattle.sets.specs.Member.{width, has, withOf, withoutOf, membersFrom, members}
+use Rattle.sets.specs.Visit.{foldOf}
 use Rattle.sets.proofs.Digit.{has-zero}
-use Rattle.sets.proofs.Change.{has-with-same, has-with-other}
-use Rattle.sets.proofs.Visit.{members-step, members-zero}
+use Rattle.sets.proofs.Visit.{from-has, from-not, members-step, members-zero, fold-step, fold-zero}
 use Rattle.table.specs.Limits.{mostTasks}
 use Rattle.table.specs.Table.{Task, Table, noTask, tasksOf, taskOf}
 use Rattle.table.specs.Floor.{uses, usersFrom, usersOf, deadlinesOf, least, floorOf}
 use Rattle.table.specs.Map.{taskAt, tasksAt, tableAt}
 use Rattle.table.specs.declared.Map.{Map}
+use Rattle.table.proofs.Floors.{least-one, users-user, users-other, users-none, users-next, users-here}
 use Rattle.readers.proofs.Raw.{tasks-at}
 
 -- ---- one task more
-
-from-user : (i : ℕ) (task : Task) (tasks : List Task) (r : ℕ) → uses task r ≡ true
-    → usersFrom i (task ∷ tasks) r ≡ withOf width (usersFrom (suc i) tasks r) i
-unfolding usersFrom
-from-user i task tasks r e = rw e
-
-from-other : (i : ℕ) (task : Task) (tasks : List Task) (r : ℕ) → uses task r ≡ false → usersFrom i (task ∷ tasks) r ≡ usersFrom (suc i) tasks r
-unfolding usersFrom
-from-other i task tasks r e = rw e
-
-from-none : (i r : ℕ) → usersFrom i [] r ≡ 0
-unfolding usersFrom
-from-none i r = refl
 
 -- the users among n tasks by their starts, from the k-th on
 abbrev pub usersDown : List ℕ → ℕ → List ℕ → ℕ → ℕ → ℕ
@@ -44,7 +32,7 @@ pub down-start : (ws : List ℕ) (n : ℕ) (starts : List ℕ) (r : ℕ) → 0 �
 unfolding tasksAt
 down-start ws n starts r =
     let e : n - n ≡ 0 = omega arith in
-    rw e (sym (from-none n r))
+    rw e (sym (users-none n r))
 
 tasks-more : (n k : ℕ) (ws starts : List ℕ) → k < n → tasksAt (n - k) k ws starts ≡ taskAt ws (getD starts k 0) ∷ tasksAt (n - suc k) (suc k) ws starts
 unfolding tasksAt
@@ -57,7 +45,7 @@ pub down-user : (ws : List ℕ) (n : ℕ) (starts : List ℕ) (r k : ℕ) {set :
 down-user ws n starts r k l h e inv =
     let q : suc (k - 1) ≡ k = omega arith in
     rw (inv, tasks-more n (k - 1) ws starts (omega arith))
-    (sym (from-user (k - 1) (taskAt ws (getD starts (k - 1) 0)) (tasksAt (n - suc (k - 1)) (suc (k - 1)) ws starts) r e
+    (sym (users-user (k - 1) (taskAt ws (getD starts (k - 1) 0)) (tasksAt (n - suc (k - 1)) (suc (k - 1)) ws starts) r e
     ∙ ap (λ (j : ℕ). withOf width (usersFrom j (tasksAt (n - j) j ws starts) r) (k - 1)) q))
 
 pub down-other : (ws : List ℕ) (n : ℕ) (starts : List ℕ) (r k : ℕ) {set : ℕ} → 0 < k → k ≤ n
@@ -65,7 +53,7 @@ pub down-other : (ws : List ℕ) (n : ℕ) (starts : List ℕ) (r k : ℕ) {set 
 down-other ws n starts r k l h e inv =
     let q : suc (k - 1) ≡ k = omega arith in
     rw (inv, tasks-more n (k - 1) ws starts (omega arith))
-    (sym (from-other (k - 1) (taskAt ws (getD starts (k - 1) 0)) (tasksAt (n - suc (k - 1)) (suc (k - 1)) ws starts) r e
+    (sym (users-other (k - 1) (taskAt ws (getD starts (k - 1) 0)) (tasksAt (n - suc (k - 1)) (suc (k - 1)) ws starts) r e
     ∙ ap (λ (j : ℕ). usersFrom j (tasksAt (n - j) j ws starts) r) q))
 
 pub down-end : (ws : List ℕ) (map : Map) (r : ℕ) → usersDown ws (min (map .tasks) mostTasks) (map .starts) r 0 ≡ usersOf (tableAt ws map) r
@@ -75,71 +63,39 @@ down-end ws map r =
     let e : n - 0 ≡ n = omega arith in
     rw e
 
--- ---- who is in a set of users
-
-users-below : (i k : ℕ) (tasks : List Task) (r : ℕ) → k < i → has (usersFrom i tasks r) k ≡ false
-users-below i k [] r l = rw (from-none i r) (has-zero k)
-users-below i k (task ∷ tasks) r l = go (users-below (suc i) k tasks r (omega arith)) (uses task r) refl
-  where
-    go : has (usersFrom (suc i) tasks r) k ≡ false → (b : Bool) → uses task r ≡ b → has (usersFrom i (task ∷ tasks) r) k ≡ false
-    go rest true e = rw (from-user i task tasks r e) (has-with-other width (usersFrom (suc i) tasks r) i k (omega arith) ∙ rest)
-    go rest false e = rw (from-other i task tasks r e) rest
-
-users-first : (i : ℕ) (task : Task) (tasks : List Task) (r : ℕ) → i < width → has (usersFrom i (task ∷ tasks) r) i ≡ uses task r
-users-first i task tasks r l = go (uses task r) refl
-  where
-    go : (b : Bool) → uses task r ≡ b → has (usersFrom i (task ∷ tasks) r) i ≡ b
-    go true e = rw (from-user i task tasks r e) (has-with-same width (usersFrom (suc i) tasks r) i l)
-    go false e = rw (from-other i task tasks r e) (users-below (suc i) i tasks r (omega arith))
-
-users-later : (i k : ℕ) (task : Task) (tasks : List Task) (r : ℕ) → i < k → has (usersFrom i (task ∷ tasks) r) k ≡ has (usersFrom (suc i) tasks r) k
-users-later i k task tasks r l = go (uses task r) refl
-  where
-    go : (b : Bool) → uses task r ≡ b → has (usersFrom i (task ∷ tasks) r) k ≡ has (usersFrom (suc i) tasks r) k
-    go true e = rw (from-user i task tasks r e) (has-with-other width (usersFrom (suc i) tasks r) i k (omega arith))
-    go false e = rw (from-other i task tasks r e)
-
 -- ---- the members of that set, and the D of each
-
-member : (n i x : ℕ) → has x i ≡ true → membersFrom (suc n) i x ≡ i ∷ membersFrom n (suc i) x
-unfolding membersFrom
-member n i x e = rw e
-
-no-member : (n i x : ℕ) → has x i ≡ false → membersFrom (suc n) i x ≡ membersFrom n (suc i) x
-unfolding membersFrom
-no-member n i x e = rw e
 
 nobody : (n i x : ℕ) → ((k : ℕ) → i ≤ k → has x k ≡ false) → membersFrom n i x ≡ []
 unfolding membersFrom
 nobody zero i x e = refl
-nobody (suc n) i x e = no-member n i x (e i (omega arith)) ∙ nobody n (suc i) x (λ k l. e k (omega arith))
+nobody (suc n) i x e = from-not n i x (e i (omega arith)) ∙ nobody n (suc i) x (λ k l. e k (omega arith))
 
 visited : (tasks : List Task) (n i x r : ℕ) (d : ℕ → ℕ) → length tasks ≤ n → i + n ≤ width
     → ((k : ℕ) → i ≤ k → has x k ≡ has (usersFrom i tasks r) k) → ((j : ℕ) → d (i + j) ≡ getD tasks j noTask .D)
     → map d (membersFrom n i x) ≡ deadlinesOf tasks r
 unfolding deadlinesOf
 visited [] n i x r d l w same ds =
-    ap (map d) (nobody n i x (λ k h. same k h ∙ ap (λ (set : ℕ). has set k) (from-none i r) ∙ has-zero k))
+    ap (map d) (nobody n i x (λ k h. same k h ∙ ap (λ (set : ℕ). has set k) (users-none i r) ∙ has-zero k))
 visited (task ∷ tasks) zero i x r d l w same ds = absurd (not-suc-le-zero l)
 visited (task ∷ tasks) (suc n) i x r d l w same ds =
     go
-    (visited tasks n (suc i) x r d (le-of-suc-le-suc l) (omega arith) (λ k h. same k (omega arith) ∙ users-later i k task tasks r h)
+    (visited tasks n (suc i) x r d (le-of-suc-le-suc l) (omega arith) (λ k h. same k (omega arith) ∙ users-next i task tasks r k (omega arith))
     (λ j. let e : suc i + j ≡ i + suc j = omega arith in ap d e ∙ ds (suc j)))
     (uses task r) refl
   where
     here : has x i ≡ uses task r
-    here = same i (omega arith) ∙ users-first i task tasks r (omega arith)
+    here = same i (omega arith) ∙ users-here i task tasks r (omega arith)
 
     first : d i ≡ task .D
     first = let e : i ≡ i + zero = omega arith in ap d e ∙ ds zero
 
     go : map d (membersFrom n (suc i) x) ≡ deadlinesOf tasks r → (b : Bool) → uses task r ≡ b
         → map d (membersFrom (suc n) i x) ≡ cond b (task .D ∷ deadlinesOf tasks r) (deadlinesOf tasks r)
-    go rest true e = rw (member n i x (here ∙ e), first, rest)
-    go rest false e = rw (no-member n i x (here ∙ e)) rest
+    go rest true e = rw (from-has n i x (here ∙ e), first, rest)
+    go rest false e = rw (from-not n i x (here ∙ e)) rest
 
 -- the D of each member of a set of tasks, lowest member first
-abbrev pub deadlinesIn : Table → ℕ → List ℕ
+abbrev deadlinesIn : Table → ℕ → List ℕ
 deadlinesIn t set = map (λ (i : ℕ). taskOf t i .D) (members width set)
 
 -- those of the users are the D of each user, in the tasks' order
@@ -151,10 +107,6 @@ users-deadlines t r l =
 
 -- ---- the least of them, by a visit
 
-least-one : (d : ℕ) → least (d ∷ []) ≡ d
-unfolding least
-least-one d = refl
-
 least-min : (a d : ℕ) (ds : List ℕ) → least (min a d ∷ ds) ≡ least (a ∷ d ∷ ds)
 unfolding least
 least-min a d [] = refl
@@ -164,23 +116,31 @@ pub floor-none : (t : Table) (r : ℕ) → tasksOf t ≤ width → usersOf t r �
 unfolding least
 floor-none t r l e = rw (← users-deadlines t r l, e, members-zero width)
 
--- `set` are those not visited yet; d is the D of the lowest of them, and `rest` are the others
+-- the lesser of a number and the D of a task: what the loop makes of each member
+abbrev pub lesserD : Table → ℕ → ℕ → ℕ
+lesserD t a i = min a (taskOf t i .D)
+
+least-fold : (d : ℕ → ℕ) (a : ℕ) (ks : List ℕ) → foldOf (λ (b i : ℕ). min b (d i)) a ks ≡ least (a ∷ map d ks)
+unfolding foldOf
+least-fold d a [] = sym (least-one a)
+least-fold d a (k ∷ ks) = least-fold d (min a (d k)) ks ∙ least-min a (d k) (map d ks)
+
+-- `set` are all users; d is the D of the lowest of them, and `rest` are the others
 pub floor-first : (t : Table) (r : ℕ) {set d rest : ℕ} → tasksOf t ≤ width → set ≡ usersOf t r → set ≢ 0 → set < 2 ^ width
     → d ≡ taskOf t (trailingZeros width set) .D → rest ≡ withoutOf width set (trailingZeros width set)
-    → least (d ∷ deadlinesIn t rest) ≡ floorOf t r
-floor-first t r {set} l e some h de re =
-    rw (de, re) (ap (λ (ks : List ℕ). least (map (λ (i : ℕ). taskOf t i .D) ks)) (sym (members-step width set some h)))
+    → foldOf (lesserD t) d (members width rest) ≡ floorOf t r
+floor-first t r {set} {d} {rest} l e some h de re =
+    least-fold (λ (i : ℕ). taskOf t i .D) d (members width rest)
+    ∙ rw (de, re) (ap (λ (ks : List ℕ). least (map (λ (i : ℕ). taskOf t i .D) ks)) (sym (members-step width set some h)))
     ∙ ap (λ (x : ℕ). least (deadlinesIn t x)) e ∙ ap least (users-deadlines t r l)
 
+-- the next of those not visited yet, and the end: the law of a loop over a set
 pub floor-next : (t : Table) (a : ℕ) {set b d rest : ℕ} → set ≢ 0 → set < 2 ^ width → d ≡ taskOf t (trailingZeros width set) .D
-    → rest ≡ withoutOf width set (trailingZeros width set) → b ≡ min a d → least (b ∷ deadlinesIn t rest) ≡ least (a ∷ deadlinesIn t set)
-floor-next t a {set} some h de re be =
-    rw (be, de, re)
-    (least-min a (taskOf t (trailingZeros width set) .D) (deadlinesIn t (withoutOf width set (trailingZeros width set)))
-    ∙ ap (λ (ks : List ℕ). least (a ∷ map (λ (i : ℕ). taskOf t i .D) ks)) (sym (members-step width set some h)))
+    → rest ≡ withoutOf width set (trailingZeros width set) → b ≡ min a d → foldOf (lesserD t) b (members width rest) ≡ foldOf (lesserD t) a (members width set)
+floor-next t a {set} some h de re be = rw (be, de, re) (sym (fold-step width (lesserD t) a set some h))
 
-pub floor-last : (t : Table) (a : ℕ) → least (a ∷ deadlinesIn t 0) ≡ a
-floor-last t a = rw (members-zero width) (least-one a)
+pub floor-last : (t : Table) (a : ℕ) → foldOf (lesserD t) a (members width 0) ≡ a
+floor-last t a = fold-zero width (lesserD t) a
 
 -- a map has no more tasks than a set has room for
 pub tasks-few : (ws : List ℕ) (map : Map) → tasksOf (tableAt ws map) ≤ width

@@ -1,34 +1,33 @@
 // What a table says, read off its words by a map: T, D, C, a plan's steps, what a plan's first steps hold, the users of a resource and its
 // floor. Every reader answers for every list of words, every map, every task number and place: what it reads is the table `tableAt` of
-// specs/Map.antt. A word that isn't there is 0, a task that isn't there has zeros and no steps, and no plan is read past its sixteenth step.
+// specs/Map.antt. A word that isn't there is 0, a task that isn't there has zeros and no steps, and no plan is read past the most steps that it may have.
 // A task's start is looked up once in each reader and handed on.
+use numbers::lesser_u32;
 use table::Map;
 use table::Next;
+use table::limits::AT_COST;
+use table::limits::AT_DEADLINE;
+use table::limits::AT_LENGTH;
+use table::limits::AT_PERIOD;
+use table::limits::AT_PLAN;
+use table::limits::AT_RESOURCE;
+use table::limits::AT_STEPS;
 use table::limits::LOCK;
 use table::limits::MOST_STEPS;
 use table::limits::MOST_TASKS;
+use table::limits::STEP_SIZE;
 ghost use Prim.Native.Nat.{_+_, _≤_, _<_, min};
 ghost use mathlib.Core.Path.{_≡_};
 ghost use mathlib.Core.Bool.{cond};
 ghost use mathlib.Core.List.{[]};
 ghost use lib.Dec.{ltb};
 ghost use lib.ListN.{length, getD};
-ghost use Rattle.table.specs.Limits.{mostTasks, mostSteps};
+ghost use Rattle.table.specs.Limits.{mostTasks, mostSteps, atPlan};
 ghost use Rattle.table.specs.Table.{taskOf};
 ghost use Rattle.table.specs.Held.{heldFrom, heldBy, heldSet};
 ghost use Rattle.table.specs.Floor.{uses, usersOf, floorOf};
 ghost use Rattle.table.specs.Innermost.{innermostOf};
 ghost use Rattle.table.specs.Map.{stepsAt, taskAt, tableAt, nextOf};
-
-// The smaller of two numbers.
-fn lesser(a: u32, b: u32) -> u32
-    ensures { λ r. ⌜ r ≡ min a b ⌝ }
-{
-    if a < b {
-        return a;
-    }
-    b
-}
 
 // The word that stands `offset` behind a place. Both may be anything: where the sum is past the last word, or past every number that a
 // `usize` has, there is no word.
@@ -56,14 +55,7 @@ fn start(map: Map, task: u32) -> usize
 pub fn tasks(map: Map) -> u32
     ensures { λ r. ⌜ r ≡ min (map .tasks) mostTasks ⌝ }
 {
-    lesser(map.tasks, MOST_TASKS)
-}
-
-// m: "Word 1: number of resources m".
-pub fn resources(map: Map) -> u32
-    ensures { λ r. ⌜ r ≡ map .resources ⌝ }
-{
-    map.resources
+    lesser_u32(map.tasks, MOST_TASKS)
 }
 
 // One of a task's first words: "for each task in order T, D, C, the number of steps s". A task that isn't there has zeros.
@@ -80,35 +72,35 @@ fn field(words: &[u32], map: Map, task: u32, offset: usize) -> u32
 pub fn period(words: &[u32], map: Map, task: u32) -> u32
     ensures { λ r. ⌜ r ≡ taskOf (tableAt (now (words .entry)) map) task .T ⌝ }
 {
-    field(words, map, task, 0)
+    field(words, map, task, AT_PERIOD)
 }
 
 // D
 pub fn deadline(words: &[u32], map: Map, task: u32) -> u32
     ensures { λ r. ⌜ r ≡ taskOf (tableAt (now (words .entry)) map) task .D ⌝ }
 {
-    field(words, map, task, 1)
+    field(words, map, task, AT_DEADLINE)
 }
 
 // C
 pub fn cost(words: &[u32], map: Map, task: u32) -> u32
     ensures { λ r. ⌜ r ≡ taskOf (tableAt (now (words .entry)) map) task .C ⌝ }
 {
-    field(words, map, task, 2)
+    field(words, map, task, AT_COST)
 }
 
 // s, the number of steps of a task's plan.
 pub fn steps(words: &[u32], map: Map, task: u32) -> u32
     ensures { λ r. ⌜ r ≡ length (taskOf (tableAt (now (words .entry)) map) task .plan) ⌝ }
 {
-    lesser(field(words, map, task, 3), MOST_STEPS)
+    lesser_u32(field(words, map, task, AT_STEPS), MOST_STEPS)
 }
 
 // How many steps are read of the plan of the task that starts at a place.
 fn plan_length(words: &[u32], at: usize) -> u32
     ensures { λ r. ⌜ r ≡ length (taskAt (now (words .entry)) at .plan) ⌝ }
 {
-    lesser(word(words, at, 3), MOST_STEPS)
+    lesser_u32(word(words, at, AT_STEPS), MOST_STEPS)
 }
 
 // The step of a task's plan at a place: "Kind 1 locks the resource for a section of at most that length", any other kind is read as an
@@ -123,9 +115,12 @@ pub fn next(words: &[u32], map: Map, task: u32, place: u32) -> Next
     if plan_length(words, at) <= place {
         return Next::Finish;
     }
-    let first = 4 + 3 * (place as usize);
+    let first = AT_PLAN + STEP_SIZE * (place as usize);
     if word(words, at, first) == LOCK {
-        return Next::Lock(word(words, at, first + 1), word(words, at, first + 2));
+        return Next::Lock(
+            word(words, at, first + AT_RESOURCE),
+            word(words, at, first + AT_LENGTH),
+        );
     }
     Next::Unlock
 }
@@ -134,12 +129,12 @@ pub fn next(words: &[u32], map: Map, task: u32, place: u32) -> Next
 fn locks(words: &[u32], at: usize, resource: u32) -> bool
     ensures { λ r. ⌜ r ≡ uses (taskAt (now (words .entry)) at) resource ⌝ }
 {
-    let count = lesser(word(words, at, 3), MOST_STEPS);
+    let count = lesser_u32(word(words, at, AT_STEPS), MOST_STEPS);
     let mut k: u32 = 0;
     while k < count {
-        let first = 4 + 3 * (k as usize);
+        let first = AT_PLAN + STEP_SIZE * (k as usize);
         if word(words, at, first) == LOCK {
-            if word(words, at, first + 1) == resource {
+            if word(words, at, first + AT_RESOURCE) == resource {
                 return true;
             }
         }
@@ -152,17 +147,17 @@ fn locks(words: &[u32], at: usize, resource: u32) -> bool
 // steps: "Kind 2 unlocks the most recent one", so an unlock closes the nearest lock before it that is not closed yet.
 fn held_after(words: &[u32], at: usize, count: u32) -> u32
     requires { ⌜ count ≤ mostSteps ⌝ }
-    ensures { λ r. ⌜ r ≡ heldSet (heldFrom [] (stepsAt count (now (words .entry)) (at + 4))) ⌝ }
+    ensures { λ r. ⌜ r ≡ heldSet (heldFrom [] (stepsAt count (now (words .entry)) (at + atPlan))) ⌝ }
 {
     let mut set: u32 = 0;
     let mut closing: u32 = 0;
     let mut left = count;
     while 0 < left {
         left -= 1;
-        let first = 4 + 3 * (left as usize);
+        let first = AT_PLAN + STEP_SIZE * (left as usize);
         if word(words, at, first) == LOCK {
             if closing == 0 {
-                set = sets::with(set, word(words, at, first + 1));
+                set = sets::with(set, word(words, at, first + AT_RESOURCE));
             } else {
                 closing -= 1;
             }
@@ -181,7 +176,7 @@ pub fn held(words: &[u32], map: Map, task: u32, place: u32) -> u32
         return 0;
     }
     let at = start(map, task);
-    let count = lesser(place, plan_length(words, at));
+    let count = lesser_u32(place, plan_length(words, at));
     held_after(words, at, count)
 }
 
@@ -191,7 +186,7 @@ pub fn innermost(words: &[u32], map: Map, task: u32, place: u32) -> u32
     ensures { λ r. ⌜ r ≡ innermostOf (heldBy (taskOf (tableAt (now (words .entry)) map) task .plan) place) ⌝ }
 {
     let mut closing: u32 = 0;
-    let mut left = lesser(place, steps(words, map, task));
+    let mut left = lesser_u32(place, steps(words, map, task));
     while 0 < left {
         left -= 1;
         match next(words, map, task, left) {
@@ -237,7 +232,7 @@ pub fn floor(words: &[u32], map: Map, resource: u32) -> u32
     let mut rest = sets::without(all, first);
     while rest != 0 {
         let task = u32::trailing_zeros(rest);
-        least = lesser(least, deadline(words, map, task));
+        least = lesser_u32(least, deadline(words, map, task));
         rest = sets::without(rest, task);
     }
     least

@@ -6,13 +6,13 @@ use mathlib.Core.List.{List, [], _∷_}
 use native.Mathlib.Omega.{arith}
 use borrow.Author.Tests.{leb-true}
 use lib.Dec.{leb}
-use Rattle.script.specs.Number.{digitsOnly, valueOf, bounded, numberOf}
+use Rattle.script.specs.Number.{digitsOnly, valueOf, bounded, numberSaid}
 use Rattle.script.specs.Grammar.{Front, got, bad, frontOf, numberFirst}
 use Rattle.script.specs.declared.Number.{Number}
 use Rattle.script.specs.declared.Number.the-variants.{Value, Amiss}
-use Rattle.script.specs.declared.Fault.the-variants.{Malformed, Large}
+use Rattle.text.specs.declared.Fault.the-variants.{Malformed, Large}
 
-pub number-most : (most : ℕ) (w : List ℕ) (n : ℕ) → numberOf most w ≡ Value n → n ≤ most
+pub number-most : (most : ℕ) (w : List ℕ) (n : ℕ) → numberSaid most w ≡ Value n → n ≤ most
 number-most most w n = go (digitsOnly w) (leb (valueOf w) most) refl
   where
     go : (t u : Bool) → leb (valueOf w) most ≡ u →
@@ -26,9 +26,9 @@ number-most most w n = go (digitsOnly w) (leb (valueOf w) most) refl
 pub front-most : (most : ℕ) (ws : List (List ℕ)) (n : ℕ) (rest : List (List ℕ)) → got n rest ≡ numberFirst most ws → n ≤ most
 unfolding numberFirst
 front-most most [] n rest h = let z : _≡_ {A = ℕ} 0 1 = cc in absurd (omega arith)
-front-most most (w ∷ ws) n rest h = go (numberOf most w) refl h
+front-most most (w ∷ ws) n rest h = go (numberSaid most w) refl h
   where
-    go : (x : Number) → numberOf most w ≡ x → got n rest ≡ frontOf x ws → n ≤ most
+    go : (x : Number) → numberSaid most w ≡ x → got n rest ≡ frontOf x ws → n ≤ most
     go (Value v) e h =
         let same : v ≡ n = cc in
         omega (arith, number-most most w v e)

@@ -1,17 +1,22 @@
 -- What a line says, by its length and its words. Assumes nothing.
 use Prim.Native.Nat.{ℕ, _≤_, _<_}
 use mathlib.Core.Path.{_≡_, refl, sym, ap, _∙_}
-use mathlib.Core.Bool.{true, false, true≢false}
+use mathlib.Core.Bool.{Bool, true, false, cond}
 use mathlib.Core.List.{List, [], _∷_}
-use borrow.Author.Tests.{lt-ltb, le-ltb}
+use native.Mathlib.Omega.{arith}
+use borrow.Author.Tests.{lt-ltb, le-ltb, ltb-true, ltb-false}
+use types.Run.{OneOf, miss}
+use denote.Enum.Declared
+use lib.Dec.{ltb}
 use lib.ListN.{length}
-use Rattle.script.specs.Words.{wordsOf}
+use Rattle.script.specs.Words.{lineWords}
 use Rattle.script.specs.Grammar.{mostBytes, commandIn, commandOf, numbersIn, numbersFor, numbersBehind, tableOf}
-use Rattle.script.specs.Cursor.{wordsFrom, isTable}
-use Rattle.script.proofs.Words.{from-start}
+use Rattle.script.specs.Cursor.{wordsFrom, Spans}
+use Rattle.script.proofs.Words.{from-start, spans-word, spans-none}
 use Rattle.script.specs.declared.Command.{Command}
+use Rattle.script.proofs.Command
 use Rattle.script.specs.declared.Command.the-variants.{Nothing, Table, Check, Start, Release, Step, Verdict, Show, Wrong}
-use Rattle.script.specs.declared.Fault.the-variants.{TooLong}
+use Rattle.text.specs.declared.Fault.the-variants.{TooLong}
 
 pub command-long : (line : List ℕ) → mostBytes < length line → commandOf line ≡ Wrong TooLong
 unfolding commandOf
@@ -21,48 +26,37 @@ pub command-short : (line : List ℕ) (ws : List (List ℕ)) → length line ≤
 unfolding commandOf
 command-short line ws h e = rw (le-ltb mostBytes (length line) h) (ap commandIn (sym (from-start line) ∙ e))
 
--- The words that a line lends: those behind its first one if it is a table, else none.
-for-table : (command : Command) (ws : List (List ℕ)) → isTable command ≡ true → numbersFor command ws ≡ numbersBehind ws
-for-table Nothing ws h = absurd (true≢false (sym h))
-for-table (Table count) ws h = refl
-for-table Check ws h = absurd (true≢false (sym h))
-for-table Start ws h = absurd (true≢false (sym h))
-for-table (Release i t) ws h = absurd (true≢false (sym h))
-for-table (Step t) ws h = absurd (true≢false (sym h))
-for-table Verdict ws h = absurd (true≢false (sym h))
-for-table Show ws h = absurd (true≢false (sym h))
-for-table (Wrong fault) ws h = absurd (true≢false (sym h))
+-- The words that a line lends: those behind its first one if it is a table, else none. The code's test tells a table from the other cases.
+abbrev others : List ℕ
+others = 0 ∷ 2 ∷ 3 ∷ 4 ∷ 5 ∷ 6 ∷ 7 ∷ 8 ∷ []
 
-for-other : (command : Command) (ws : List (List ℕ)) → isTable command ≡ false → numbersFor command ws ≡ []
-for-other Nothing ws h = refl
-for-other (Table count) ws h = absurd (true≢false h)
-for-other Check ws h = refl
-for-other Start ws h = refl
-for-other (Release i t) ws h = refl
-for-other (Step t) ws h = refl
-for-other Verdict ws h = refl
-for-other Show ws h = refl
-for-other (Wrong fault) ws h = refl
+for-other : (command : Command) (ws : List (List ℕ)) → OneOf others (Declared.tagOf Command.the-type command) → numbersFor command ws ≡ []
+for-other Nothing ws told = refl
+for-other (Table count) ws told = absurd (miss others 1 tt told)
+for-other Check ws told = refl
+for-other Start ws told = refl
+for-other (Release i t) ws told = refl
+for-other (Step t) ws told = refl
+for-other Verdict ws told = refl
+for-other Show ws told = refl
+for-other (Wrong fault) ws told = refl
 
-for-none : (command : Command) → numbersFor command [] ≡ []
-for-none Nothing = refl
-for-none (Table count) = refl
-for-none Check = refl
-for-none Start = refl
-for-none (Release i t) = refl
-for-none (Step t) = refl
-for-none Verdict = refl
-for-none Show = refl
-for-none (Wrong fault) = refl
-
-pub lends-words : (line w : List ℕ) (ws : List (List ℕ)) → isTable (commandOf line) ≡ true → wordsFrom line 0 ≡ w ∷ ws → tableOf line ≡ numbersIn ws
+pub lends-other : (line : List ℕ) (command : Command) → command ≡ commandOf line → OneOf others (Declared.tagOf Command.the-type command) →
+    tableOf line ≡ []
 unfolding tableOf
-lends-words line w ws h e = for-table (commandOf line) (wordsOf line) h ∙ ap numbersBehind (sym (from-start line) ∙ e)
+lends-other line command e told = rw (← e) (for-other command (lineWords line) told)
 
-pub lends-other : (line : List ℕ) → isTable (commandOf line) ≡ false → tableOf line ≡ []
+-- A table has a first word.
+pub lends-words : (line : List ℕ) (from to count : ℕ) → commandOf line ≡ Table count → Spans line 0 from to → tableOf line ≡ numbersIn (wordsFrom line to)
 unfolding tableOf
-lends-other line h = for-other (commandOf line) (wordsOf line) h
+lends-words line from to count e spans = go (ltb from to) refl (ltb mostBytes (length line)) refl
+  where
+    words : (ws : List (List ℕ)) → wordsFrom line 0 ≡ ws → tableOf line ≡ numbersFor (Table count) ws
+    words ws w = rw (e, ← from-start line, w)
 
-pub lends-none : (line : List ℕ) → wordsFrom line 0 ≡ [] → tableOf line ≡ []
-unfolding tableOf
-lends-none line e = rw (sym (from-start line) ∙ e) (for-none (commandOf line))
+    go : (u : Bool) → ltb from to ≡ u → (long : Bool) → ltb mostBytes (length line) ≡ long → tableOf line ≡ numbersIn (wordsFrom line to)
+    go true f long q = words _ (spans-word spans (ltb-true from to f))
+    go false f true q = let z : _≡_ {A = ℕ} 0 1 = cc (command-long line (ltb-true mostBytes (length line) q)) in absurd (omega arith)
+    go false f false q =
+        let z : _≡_ {A = ℕ} 0 1 = cc (command-short line [] (ltb-false mostBytes (length line) q) (spans-none spans (ltb-false from to f))) in
+        absurd (omega arith)

@@ -10,10 +10,10 @@ use borrow.Author.Tests.{eq-eqb, ne-eqb, le-leb, lt-leb}
 use lib.Dec.{eqb}
 use lib.ListN.{length, drop, getD, drop-of-length-le}
 use lib.Seq.{drop-cons}
-use Rattle.script.specs.Bytes.{isDigit, same}
+use Rattle.script.specs.Signs.{isDigit, same}
 use Rattle.script.specs.Number.{digitsOnly, valueFrom, bounded}
 use Rattle.script.specs.declared.Number.the-variants.{Value, Amiss}
-use Rattle.script.specs.declared.Fault.the-variants.{Large}
+use Rattle.text.specs.declared.Fault.the-variants.{Large}
 
 -- Words of different lengths are not the same.
 pub same-length : (v w : List ℕ) → (length v ≡ length w → ⊥) → same v w ≡ false

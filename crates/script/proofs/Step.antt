@@ -4,8 +4,8 @@ use mathlib.Core.Path.{_≡_, refl}
 use mathlib.Core.Bool.{Bool, true, false, cond}
 use mathlib.Core.List.{List, [], _∷_}
 use native.Mathlib.Numerals.{add-one}
-use Rattle.script.specs.Bytes.{same}
-use Rattle.script.specs.Number.{numberOf}
+use Rattle.script.specs.Signs.{same}
+use Rattle.script.specs.Number.{numberSaid}
 use Rattle.script.specs.Grammar.{mostWord, slash, numberThen, numbersIn, tableThen, tableSaid}
 use Rattle.script.specs.Cursor.{Stepped, over, nothing, word, amiss, steppedBy, stepped}
 use Rattle.script.specs.declared.Number.{Number}
@@ -21,9 +21,9 @@ Follows count ws (amiss fault) = (tableSaid count ws ≡ Wrong fault) × (number
 pub follows : (count : ℕ) (ws : List (List ℕ)) → Follows count ws (stepped ws)
 unfolding stepped tableSaid numbersIn
 follows count [] = (refl, refl)
-follows count (w ∷ ws) = go (same w slash) refl (numberOf mostWord w) refl
+follows count (w ∷ ws) = go (same w slash) refl (numberSaid mostWord w) refl
   where
-    go : (t : Bool) → same w slash ≡ t → (x : Number) → numberOf mostWord w ≡ x →
+    go : (t : Bool) → same w slash ≡ t → (x : Number) → numberSaid mostWord w ≡ x →
         Follows count (w ∷ ws) (cond t (nothing ws) (steppedBy x ws))
     go true e x f = (rw e, rw e)
     go false e (Value n) f = (rw (e, f, add-one count), rw (e, f))

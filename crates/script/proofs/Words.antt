@@ -10,8 +10,8 @@ use borrow.Author.Tests.{lt-ltb, le-ltb, ltb-true, ltb-false, ne-eqb}
 use lib.Dec.{ltb, eqb}
 use lib.ListN.{length, take, drop, getD, length-drop, drop-of-length-le}
 use lib.Seq.{drop-cons, drop-drop}
-use Rattle.script.specs.Bytes.{blank, hash}
-use Rattle.script.specs.Words.{cut, joined, before, split, wordsOf}
+use Rattle.script.specs.Signs.{blank, hash}
+use Rattle.script.specs.Words.{cut, joined, before, split, lineWords}
 use Rattle.script.specs.Cursor.{wordsFrom, lead, inWord, Spans}
 
 -- How far a test holds from a place on.
@@ -42,8 +42,8 @@ blank-hash : (c : ℕ) → blank c ≡ true → eqb c hash ≡ false
 blank-hash c h = ne-eqb c hash (λ e. true≢false (sym (rw e at h)))
 
 -- Blanks in front.
-words-gap : (s : List ℕ) → wordsOf s ≡ wordsOf (drop (lead blank s) s)
-unfolding wordsOf lead cut split
+words-gap : (s : List ℕ) → lineWords s ≡ lineWords (drop (lead blank s) s)
+unfolding lineWords lead cut split
 words-gap [] = refl
 words-gap (c ∷ cs) = go (blank c) refl (words-gap cs)
   where
@@ -81,21 +81,21 @@ lead-one test c cs = go (test c)
     go false h = absurd (omega arith)
 
 -- A byte of a word in front of a byte of a word belongs to it; in front of any other byte it is a word.
-run-on : (c d : ℕ) (ds : List ℕ) → inWord c ≡ true → inWord d ≡ true → wordsOf (c ∷ d ∷ ds) ≡ joined c (wordsOf (d ∷ ds))
-unfolding wordsOf cut split
+run-on : (c d : ℕ) (ds : List ℕ) → inWord c ≡ true → inWord d ≡ true → lineWords (c ∷ d ∷ ds) ≡ joined c (lineWords (d ∷ ds))
+unfolding lineWords cut split
 run-on c d ds t u = rw (in-word c t .1, in-word c t .0, in-word d u .1, in-word d u .0)
 
-run-out : (c d : ℕ) (ds : List ℕ) → inWord c ≡ true → inWord d ≡ false → wordsOf (c ∷ d ∷ ds) ≡ (c ∷ []) ∷ wordsOf (d ∷ ds)
-unfolding wordsOf cut split
+run-out : (c d : ℕ) (ds : List ℕ) → inWord c ≡ true → inWord d ≡ false → lineWords (c ∷ d ∷ ds) ≡ (c ∷ []) ∷ lineWords (d ∷ ds)
+unfolding lineWords cut split
 run-out c d ds t u = go (blank d) (eqb d hash) refl refl u
   where
-    go : (a b : Bool) → blank d ≡ a → eqb d hash ≡ b → not (a || b) ≡ false → wordsOf (c ∷ d ∷ ds) ≡ (c ∷ []) ∷ wordsOf (d ∷ ds)
+    go : (a b : Bool) → blank d ≡ a → eqb d hash ≡ b → not (a || b) ≡ false → lineWords (c ∷ d ∷ ds) ≡ (c ∷ []) ∷ lineWords (d ∷ ds)
     go a true e f h = rw (in-word c t .1, in-word c t .0, f)
     go true false e f h = rw (in-word c t .1, in-word c t .0, f, e)
     go false false e f h = absurd (true≢false h)
 
-words-run : (s : List ℕ) → zero < lead inWord s → wordsOf s ≡ take (lead inWord s) s ∷ wordsOf (drop (lead inWord s) s)
-unfolding wordsOf lead cut split
+words-run : (s : List ℕ) → zero < lead inWord s → lineWords s ≡ take (lead inWord s) s ∷ lineWords (drop (lead inWord s) s)
+unfolding lineWords lead cut split
 words-run [] h = absurd (omega arith)
 words-run (c ∷ []) h =
     let t : inWord c ≡ true = lead-one inWord c [] h in
@@ -105,20 +105,20 @@ words-run (c ∷ d ∷ ds) h =
     rw t (go (inWord d) refl (words-run (d ∷ ds)) t)
   where
     go : (u : Bool) → inWord d ≡ u →
-        (zero < lead inWord (d ∷ ds) → wordsOf (d ∷ ds) ≡ take (lead inWord (d ∷ ds)) (d ∷ ds) ∷ wordsOf (drop (lead inWord (d ∷ ds)) (d ∷ ds))) →
+        (zero < lead inWord (d ∷ ds) → lineWords (d ∷ ds) ≡ take (lead inWord (d ∷ ds)) (d ∷ ds) ∷ lineWords (drop (lead inWord (d ∷ ds)) (d ∷ ds))) →
         inWord c ≡ true →
-        wordsOf (c ∷ d ∷ ds) ≡ (c ∷ take (lead inWord (d ∷ ds)) (d ∷ ds)) ∷ wordsOf (drop (lead inWord (d ∷ ds)) (d ∷ ds))
+        lineWords (c ∷ d ∷ ds) ≡ (c ∷ take (lead inWord (d ∷ ds)) (d ∷ ds)) ∷ lineWords (drop (lead inWord (d ∷ ds)) (d ∷ ds))
     go true u rest t = run-on c d ds t u ∙ ap (joined c) (rest (rw u (omega arith)))
     go false u rest t = run-out c d ds t u ∙ (rw u)
 
 -- No word in front.
-words-none : (s : List ℕ) → lead blank s ≡ 0 → lead inWord s ≡ 0 → wordsOf s ≡ []
-unfolding wordsOf lead cut split
+words-none : (s : List ℕ) → lead blank s ≡ 0 → lead inWord s ≡ 0 → lineWords s ≡ []
+unfolding lineWords lead cut split
 words-none [] g h = refl
 words-none (c ∷ cs) g h = go (blank c) (eqb c hash) refl refl g h
   where
     go : (a b : Bool) → blank c ≡ a → eqb c hash ≡ b → cond a (suc (lead blank cs)) 0 ≡ 0 →
-        cond (not (a || b)) (suc (lead inWord cs)) 0 ≡ 0 → wordsOf (c ∷ cs) ≡ []
+        cond (not (a || b)) (suc (lead inWord cs)) 0 ≡ 0 → lineWords (c ∷ cs) ≡ []
     go true b e f g h = absurd (omega arith)
     go false true e f g h = rw f
     go false false e f g h = absurd (omega arith)
@@ -129,21 +129,21 @@ pub spans : (line : List ℕ) (at from to : ℕ) → from ≡ at + lead blank (d
 unfolding wordsFrom
 spans line at from to f t =
     let there : drop (lead blank (drop at line)) (drop at line) ≡ drop from line = rw f (drop-drop (lead blank (drop at line)) at line) in
-    let skips : wordsOf (drop at line) ≡ wordsOf (drop from line) = words-gap (drop at line) ∙ ap wordsOf there in
+    let skips : lineWords (drop at line) ≡ lineWords (drop from line) = words-gap (drop at line) ∙ ap lineWords there in
     record {
       onward = omega arith;
       inside = λ h. omega (arith, lead-le inWord (drop from line), length-drop from line);
       words = skips ∙ go (ltb from to) refl;
     }
   where
-    go : (u : Bool) → ltb from to ≡ u → wordsOf (drop from line) ≡ cond u (take (to - from) (drop from line) ∷ wordsOf (drop to line)) []
+    go : (u : Bool) → ltb from to ≡ u → lineWords (drop from line) ≡ cond u (take (to - from) (drop from line) ∷ lineWords (drop to line)) []
     go true e =
         let n = lead inWord (drop from line) in
         let some : from < to = ltb-true from to e in
         let long : n ≡ to - from = omega arith in
         let end : drop n (drop from line) ≡ drop to line = rw t (drop-drop n from line) in
-        words-run (drop from line) (omega arith) ∙ ap (λ (k : ℕ). take k (drop from line) ∷ wordsOf (drop n (drop from line))) long ∙
-        ap (λ (l : List ℕ). take (to - from) (drop from line) ∷ wordsOf l) end
+        words-run (drop from line) (omega arith) ∙ ap (λ (k : ℕ). take k (drop from line) ∷ lineWords (drop n (drop from line))) long ∙
+        ap (λ (l : List ℕ). take (to - from) (drop from line) ∷ lineWords l) end
     go false e =
         let none : to ≤ from = ltb-false from to e in
         let there : drop (lead blank (drop at line)) (drop at line) ≡ drop from line = rw f (drop-drop (lead blank (drop at line)) at line) in
@@ -158,6 +158,6 @@ pub spans-none : {line : List ℕ} {at from to : ℕ} → Spans line at from to 
 spans-none {line} {at} {from} {to} s h = s .words ∙ (rw (le-ltb from to h))
 
 -- The words from the start on are the line's.
-pub from-start : (line : List ℕ) → wordsFrom line 0 ≡ wordsOf line
+pub from-start : (line : List ℕ) → wordsFrom line 0 ≡ lineWords line
 unfolding wordsFrom
 from-start line = refl

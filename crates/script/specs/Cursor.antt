@@ -6,24 +6,22 @@ use mathlib.Core.Bool.{Bool, true, false, not, cond, _||_}
 use mathlib.Core.List.{List, [], _∷_}
 use lib.Dec.{ltb, eqb}
 use lib.ListN.{length, take, drop}
-use Rattle.script.specs.Bytes.{blank, hash, same}
-use Rattle.script.specs.Number.{numberOf}
-use Rattle.script.specs.Words.{wordsOf}
+use Rattle.script.specs.Signs.{blank, hash, same}
+use Rattle.script.specs.Number.{numberSaid}
+use Rattle.script.specs.Words.{lineWords}
 use Rattle.script.specs.Grammar as grammar
 use Rattle.script.specs.Grammar.{mostWord, slash}
-use Rattle.script.specs.declared.Fault.{Fault}
+use Rattle.text.specs.declared.Fault.{Fault}
 use Rattle.script.specs.declared.Number.{Number}
 use Rattle.script.specs.declared.Number.the-variants as number
 use Rattle.script.specs.declared.Front.{Front}
 use Rattle.script.specs.declared.Front.the-variants.{Got, Bad}
-use Rattle.script.specs.declared.Command.{Command}
-use Rattle.script.specs.declared.Command.the-variants as command
 use Rattle.script.specs.declared.Entry.{Entry}
 use Rattle.script.specs.declared.Entry.the-variants as entry
 
 -- The words of a line from a place on.
 unfoldable pub wordsFrom : List ℕ → ℕ → List (List ℕ)
-wordsFrom line at = wordsOf (drop at line)
+wordsFrom line at = lineWords (drop at line)
 
 -- How many bytes a list begins with that pass a test.
 unfoldable pub lead : (ℕ → Bool) → List ℕ → ℕ
@@ -58,7 +56,7 @@ steppedBy (number.Amiss fault) ws = amiss fault
 
 unfoldable pub stepped : List (List ℕ) → Stepped
 stepped [] = over
-stepped (w ∷ ws) = cond (same w slash) (nothing ws) (steppedBy (numberOf mostWord w) ws)
+stepped (w ∷ ws) = cond (same w slash) (nothing ws) (steppedBy (numberSaid mostWord w) ws)
 
 abbrev pub entryIn : List ℕ → Entry → Stepped
 entryIn line entry.End = over
@@ -76,15 +74,3 @@ Further line at (entry.Amiss fault) = Unit {0}
 pub record Steps (line : List ℕ) (at : ℕ) (e : Entry) : Type 0 where
   pub is : entryIn line e ≡ stepped (wordsFrom line at)
   pub further : Further line at e
-
--- Whether a command is a table.
-abbrev pub isTable : Command → Bool
-isTable command.Nothing = false
-isTable (command.Table count) = true
-isTable command.Check = false
-isTable command.Start = false
-isTable (command.Release i t) = false
-isTable (command.Step t) = false
-isTable command.Verdict = false
-isTable command.Show = false
-isTable (command.Wrong fault) = false

@@ -1,15 +1,16 @@
--- What a line says: a command, or what is wrong with it. "The words of a line are judged from left to right and the first fault is the answer."
+-- What a line says: a command, or what is wrong with it. "Its words are judged from left to right, and the first fault is the answer."
 -- Assumes nothing.
 use Prim.Native.Nat.{ℕ, suc, _-_, _^_}
 use mathlib.Core.Bool.{cond}
 use mathlib.Core.List.{List, [], _∷_}
 use lib.Dec.{ltb}
 use lib.ListN.{length}
-use Rattle.script.specs.Bytes.{bytes, same}
-use Rattle.script.specs.Number.{numberOf}
-use Rattle.script.specs.Words.{wordsOf}
-use Rattle.script.specs.declared.Fault.{Fault}
-use Rattle.script.specs.declared.Fault.the-variants.{Unknown, Missing, LeftOver, TooLong}
+use Rattle.text.specs.Bytes.{bytes}
+use Rattle.script.specs.Signs.{same}
+use Rattle.script.specs.Number.{numberSaid}
+use Rattle.script.specs.Words.{lineWords}
+use Rattle.text.specs.declared.Fault.{Fault}
+use Rattle.text.specs.declared.Fault.the-variants.{Unknown, Missing, LeftOver, TooLong}
 use Rattle.script.specs.declared.Number.{Number}
 use Rattle.script.specs.declared.Number.the-variants.{Value, Amiss}
 use Rattle.script.specs.declared.Keyword.{Keyword}
@@ -21,7 +22,7 @@ use Rattle.script.specs.declared.Command.the-variants.{Nothing, Table, C
 abbrev pub mostBytes : ℕ
 mostBytes = 65_536
 
--- "words of a table below 2^32, task numbers below 2^32, times below 2^64"
+-- "a word of a table, a task number | below 2^32", "a time | below 2^64"
 abbrev pub mostWord : ℕ
 mostWord = 2 ^ 32 - 1
 
@@ -51,14 +52,14 @@ frontOf (Amiss fault) ws = bad fault
 -- A number in front: "the line ends where a number, or `at`, must stand" is `number missing`.
 unfoldable pub numberFirst : ℕ → List (List ℕ) → Front
 numberFirst most [] = bad Missing
-numberFirst most (w ∷ ws) = frontOf (numberOf most w) ws
+numberFirst most (w ∷ ws) = frontOf (numberSaid most w) ws
 
--- "a word stands where `at` must stand and isn't `at`": `unknown word`
+-- "another word stands where `at` must stand": `unknown word`
 unfoldable pub atFirst : List (List ℕ) → Front
 atFirst [] = bad Missing
 atFirst (w ∷ ws) = cond (same w (bytes "at")) (got 0 ws) (bad Unknown)
 
--- A whole command: "a word after a whole command" is `something left over`.
+-- A whole command: "a word follows a whole command" is `something left over`.
 unfoldable pub alone : Command → List (List ℕ) → Command
 alone command [] = command
 alone command (w ∷ ws) = Wrong LeftOver
@@ -76,8 +77,8 @@ abbrev pub stepWith : Front → Command
 stepWith (got t ws) = alone (Step t) ws
 stepWith (bad fault) = Wrong fault
 
-abbrev pub stepSaid : List (List ℕ) → Command
-stepSaid ws = stepWith (timeFirst ws)
+abbrev pub stepCommand : List (List ℕ) → Command
+stepCommand ws = stepWith (timeFirst ws)
 
 -- `release I at T`
 abbrev pub releaseAt : ℕ → Front → Command
@@ -91,7 +92,7 @@ releaseWith (bad fault) = Wrong fault
 abbrev pub releaseSaid : List (List ℕ) → Command
 releaseSaid ws = releaseWith (numberFirst mostWord ws)
 
--- "words that are exactly `/`" stand for nothing.
+-- "In a `table` line the word `/` stands for nothing"
 abbrev pub slash : List ℕ
 slash = bytes "/"
 
@@ -102,10 +103,9 @@ numberThen (Amiss fault) ns = []
 
 unfoldable pub numbersIn : List (List ℕ) → List ℕ
 numbersIn [] = []
-numbersIn (w ∷ ws) = cond (same w slash) (numbersIn ws) (numberThen (numberOf mostWord w) (numbersIn ws))
+numbersIn (w ∷ ws) = cond (same w slash) (numbersIn ws) (numberThen (numberSaid mostWord w) (numbersIn ws))
 
--- `table N N N ..`, behind `count` numbers: "takes numbers (each below 2^32) and words that are exactly `/` to the line's end, so it can have no
--- words at all"
+-- `table N N N ..`, behind `count` numbers: numbers and `/` to the line's end. "A `table` line without any words lends the empty list."
 abbrev pub tableThen : Number → Command → Command
 tableThen (Value n) rest = rest
 tableThen (Amiss fault) rest = Wrong fault
@@ -115,7 +115,7 @@ tableSaid count [] = Table count
 tableSaid count (w ∷ ws) =
     cond (same w slash)
     (tableSaid count ws)
-    (tableThen (numberOf mostWord w) (tableSaid (suc count) ws))
+    (tableThen (numberSaid mostWord w) (tableSaid (suc count) ws))
 
 -- The words behind a command's first one.
 abbrev pub behind : Keyword → List (List ℕ) → Command
@@ -123,19 +123,19 @@ behind keyword.Table ws = tableSaid 0 ws
 behind keyword.Check ws = alone Check ws
 behind keyword.Start ws = alone Start ws
 behind keyword.Release ws = releaseSaid ws
-behind keyword.Step ws = stepSaid ws
+behind keyword.Step ws = stepCommand ws
 behind keyword.Verdict ws = alone Verdict ws
 behind keyword.Show ws = alone Show ws
 behind keyword.Another ws = Wrong Unknown
 
--- "Lines with nothing in them are skipped"; "`unknown word`: the first word is no command".
+-- "A line with nothing in it, or with a comment only, is skipped"; `unknown word`: "the first word is no command".
 abbrev pub commandIn : List (List ℕ) → Command
 commandIn [] = Nothing
 commandIn (w ∷ ws) = behind (keywordOf w) ws
 
--- "the line has more than 65,536 bytes ..; nothing else of it is judged, not even a comment"
+-- "the line has more than 65,536 bytes; nothing else of it is judged, not even a comment"
 unfoldable pub commandOf : List ℕ → Command
-commandOf line = cond (ltb mostBytes (length line)) (Wrong TooLong) (commandIn (wordsOf line))
+commandOf line = cond (ltb mostBytes (length line)) (Wrong TooLong) (commandIn (lineWords line))
 
 -- The words of the table that a line lends; a line that lends none has none.
 abbrev pub numbersBehind : List (List ℕ) → List ℕ
@@ -154,4 +154,4 @@ numbersFor Show ws = []
 numbersFor (Wrong fault) ws = []
 
 unfoldable pub tableOf : List ℕ → List ℕ
-tableOf line = numbersFor (commandOf line) (wordsOf line)
+tableOf line = numbersFor (commandOf line) (lineWords line)

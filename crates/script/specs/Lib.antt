@@ -1,9 +1,6 @@
--- The script of docs/SCRIPT.md as definitions: how a line is split into words, what the words say, and what is written back.
-pub mod Bytes
+-- The script of docs/SCRIPT.md as definitions: how a line is split into words, and what the words say.
+pub mod Signs
 pub mod Number
 pub mod Words
 pub mod Grammar
 pub mod Cursor
-pub mod Room
-pub mod Lines
-pub mod Said

@@ -3,9 +3,9 @@ use Prim.Native.Nat.{ℕ}
 use mathlib.Core.Bool.{cond}
 use mathlib.Core.List.{List, [], _∷_}
 use lib.Dec.{eqb}
-use Rattle.script.specs.Bytes.{blank, hash}
+use Rattle.script.specs.Signs.{blank, hash}
 
--- "`#` anywhere starts a comment" that runs to the line's end.
+-- "`#` starts a comment that runs to the line's end"
 unfoldable pub cut : List ℕ → List ℕ
 cut [] = []
 cut (c ∷ cs) = cond (eqb c hash) [] (c ∷ cut cs)
@@ -21,11 +21,11 @@ abbrev pub before : ℕ → List ℕ → List (List ℕ) → List (List ℕ)
 before c [] ws = (c ∷ []) ∷ ws
 before c (d ∷ cs) ws = cond (blank d) ((c ∷ []) ∷ ws) (joined c ws)
 
--- "Words are separated by blanks"; every byte that is no blank, those above 127 too, is part of a word.
+-- "Words are separated by blanks: spaces, tabs, carriage returns."; every byte that is no blank, those above 127 too, is part of a word.
 unfoldable pub split : List ℕ → List (List ℕ)
 split [] = []
 split (c ∷ cs) = cond (blank c) (split cs) (before c cs (split cs))
 
 -- The words of a line.
-unfoldable pub wordsOf : List ℕ → List (List ℕ)
-wordsOf line = split (cut line)
+unfoldable pub lineWords : List ℕ → List (List ℕ)
+lineWords line = split (cut line)

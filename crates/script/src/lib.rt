@@ -1,17 +1,8 @@
-// The script of docs/SCRIPT.md: one line of bytes to a command or to what is wrong with it, and every answer to bytes in a lent buffer.
-// Every public call answers for every line, every value and every buffer.
-pub mod read;
-pub mod write;
+// The script of docs/SCRIPT.md as it is read: one line of bytes to a command or to what is wrong with it. Every public call answers for every line and
+// every room. Answers are written by the crate `lines`.
+use text::Fault;
 
-// What is wrong with a line that is no command.
-pub enum Fault {
-    Unknown,
-    Missing,
-    Malformed,
-    Large,
-    LeftOver,
-    TooLong,
-}
+pub mod read;
 
 // What a line says. A table says how many words it lends; `read::table_words` hands them out.
 pub enum Command {
@@ -24,13 +15,6 @@ pub enum Command {
     Verdict,
     Show,
     Wrong(Fault),
-}
-
-// What a job does next, with the resource that it locks or unlocks.
-pub enum Doing {
-    Lock(u32),
-    Unlock(u32),
-    Finish,
 }
 
 // Which command a line's first word is.

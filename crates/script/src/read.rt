@@ -1,53 +1,48 @@
 // A line of bytes to a command. The code goes over the line by places; each function says what it read in terms of the line's words.
 use crate::Command;
 use crate::Entry;
-use crate::Fault;
 use crate::Front;
 use crate::Keyword;
 use crate::Number;
 use crate::Span;
+use text::Fault;
 ghost use Prim.Native.Nat.{_+_, _-_};
 ghost use mathlib.Core.Path.{_≡_};
 ghost use mathlib.Core.List.{[], _∷_};
 ghost use lib.ListN.{drop};
-ghost use Rattle.script.specs.Bytes.{blank, isDigit};
-ghost use Rattle.script.specs.Bytes.{same as sameWord};
-ghost use Rattle.script.specs.Number.{digitsOnly, valueOf, bounded, numberOf};
-ghost use Rattle.script.specs.Grammar.{mostTime, keywordOf, numberFirst, atFirst, timeFirst, alone, stepSaid, releaseAt, releaseSaid, numbersIn, tableSaid, commandOf, tableOf};
-ghost use Rattle.script.specs.Cursor.{wordsFrom, lead, inWord, Spans, frontIn, Steps, isTable};
-ghost use Rattle.script.specs.Room.{Written, Laid};
+ghost use Rattle.script.specs.Signs.{blank, isDigit};
+ghost use Rattle.script.specs.Signs.{same as sameWord};
+ghost use Rattle.script.specs.Number.{digitsOnly, valueOf, bounded, numberSaid};
+ghost use Rattle.script.specs.Grammar.{mostTime, keywordOf, numberFirst, atFirst, timeFirst, alone, stepCommand, releaseAt, releaseSaid, numbersIn, tableSaid, commandOf, tableOf};
+ghost use Rattle.script.specs.Cursor.{wordsFrom, lead, inWord, Spans, frontIn, Steps};
+ghost use Rattle.text.specs.Room.{Written, Laid};
+
+// Limits of docs/SCRIPT.md, as specs/Grammar.antt has them.
+pub const MOST_BYTES: usize = 65_536;
+
+const MOST_WORD: u64 = u32::MAX as u64;
+
+const MOST_TIME: u64 = u64::MAX;
 
 // A space, a tab or a carriage return.
 fn is_blank(byte: u8) -> bool
     ensures { λ r. ⌜ r ≡ blank byte ⌝ }
 {
-    if byte == 32 {
-        return true;
-    }
-    if byte == 9 {
-        return true;
-    }
-    byte == 13
+    byte == b' ' || byte == b'\t' || byte == b'\r'
 }
 
 // A byte of a word.
 fn in_word(byte: u8) -> bool
     ensures { λ r. ⌜ r ≡ inWord byte ⌝ }
 {
-    if is_blank(byte) {
-        return false;
-    }
-    byte != 35
+    !is_blank(byte) && byte != b'#'
 }
 
 // `0` to `9`.
 fn is_digit(byte: u8) -> bool
     ensures { λ r. ⌜ r ≡ isDigit byte ⌝ }
 {
-    if byte < 48 {
-        return false;
-    }
-    byte <= 57
+    b'0' <= byte && byte <= b'9'
 }
 
 // The first place from `at` on that is no blank.
@@ -94,12 +89,10 @@ fn same(word: &[u8], other: &[u8]) -> bool
     if word.len() != other.len() {
         return false;
     }
-    let mut i = 0;
-    while i < word.len() {
+    for i in 0..word.len() {
         if word[i] != other[i] {
             return false;
         }
-        i += 1;
     }
     true
 }
@@ -108,12 +101,10 @@ fn same(word: &[u8], other: &[u8]) -> bool
 fn digits_only(word: &[u8]) -> bool
     ensures { λ r. ⌜ r ≡ digitsOnly (now (word .entry)) ⌝ }
 {
-    let mut i = 0;
-    while i < word.len() {
+    for i in 0..word.len() {
         if !is_digit(word[i]) {
             return false;
         }
-        i += 1;
     }
     true
 }
@@ -122,10 +113,10 @@ fn digits_only(word: &[u8]) -> bool
 fn digit(byte: u8) -> u64
     ensures { λ r. ⌜ r ≡ byte - 48 ⌝ }
 {
-    if byte < 48 {
+    if byte < b'0' {
         return 0;
     }
-    (byte - 48) as u64
+    (byte - b'0') as u64
 }
 
 // The value of a word's digits, if it is at most `most`.
@@ -133,8 +124,7 @@ fn value(word: &[u8], most: u64) -> Number
     ensures { λ r. ⌜ r ≡ bounded most (valueOf (now (word .entry))) ⌝ }
 {
     let mut n: u64 = 0;
-    let mut i = 0;
-    while i < word.len() {
+    for i in 0..word.len() {
         let d = digit(word[i]);
         if most < d {
             return Number::Amiss(Fault::Large);
@@ -143,14 +133,13 @@ fn value(word: &[u8], most: u64) -> Number
             return Number::Amiss(Fault::Large);
         }
         n = n * 10 + d;
-        i += 1;
     }
     Number::Value(n)
 }
 
 // A word as a number that is at most `most`.
 fn number(word: &[u8], most: u64) -> Number
-    ensures { λ r. ⌜ r ≡ numberOf most (now (word .entry)) ⌝ }
+    ensures { λ r. ⌜ r ≡ numberSaid most (now (word .entry)) ⌝ }
 {
     if digits_only(word) {
         return value(word, most);
@@ -223,7 +212,7 @@ fn time_at(line: &[u8], at: usize) -> Front
     ensures { λ r. ⌜ frontIn (now (line .entry)) r ≡ timeFirst (wordsFrom (now (line .entry)) at) ⌝ }
 {
     match at_at(line, at) {
-        Front::Got(_, to) => number_at(line, to, u64::MAX),
+        Front::Got(_, to) => number_at(line, to, MOST_TIME),
         Front::Bad(fault) => Front::Bad(fault),
     }
 }
@@ -243,7 +232,7 @@ fn alone_at(line: &[u8], at: usize, command: Command) -> Command
 
 // Behind `step`.
 fn step_at(line: &[u8], at: usize) -> Command
-    ensures { λ r. ⌜ r ≡ stepSaid (wordsFrom (now (line .entry)) at) ⌝ }
+    ensures { λ r. ⌜ r ≡ stepCommand (wordsFrom (now (line .entry)) at) ⌝ }
 {
     match time_at(line, at) {
         Front::Got(time, to) => alone_at(line, to, Command::Step(time)),
@@ -265,7 +254,7 @@ fn release_of(line: &[u8], at: usize, task: u32) -> Command
 fn release_at(line: &[u8], at: usize) -> Command
     ensures { λ r. ⌜ r ≡ releaseSaid (wordsFrom (now (line .entry)) at) ⌝ }
 {
-    match number_at(line, at, 4294967295) {
+    match number_at(line, at, MOST_WORD) {
         Front::Got(task, to) => release_of(line, to, task as u32),
         Front::Bad(fault) => Command::Wrong(fault),
     }
@@ -282,7 +271,7 @@ fn entry_at(line: &[u8], at: usize) -> Entry
         if same(&line[from..to], b"/") {
             return Entry::Slash(to);
         }
-        match number(&line[from..to], 4294967295) {
+        match number(&line[from..to], MOST_WORD) {
             Number::Value(n) => return Entry::Word(n as u32, to),
             Number::Amiss(fault) => return Entry::Amiss(fault),
         }
@@ -313,7 +302,7 @@ fn table_at(line: &[u8], at: usize) -> Command
 pub fn command_of(line: &[u8]) -> Command
     ensures { λ r. ⌜ r ≡ commandOf (now (line .entry)) ⌝ }
 {
-    if 65536 < line.len() {
+    if MOST_BYTES < line.len() {
         return Command::Wrong(Fault::TooLong);
     }
     let span = next_word(line, 0);
@@ -335,7 +324,7 @@ pub fn command_of(line: &[u8]) -> Command
 }
 
 // One word of a table, into the room.
-fn put_word(room: &mut [u32], at: usize, word: u32) -> usize
+fn lay_word(room: &mut [u32], at: usize, word: u32) -> usize
     ensures { λ r. ⌜ Laid (word ∷ []) (now (room .entry)) at (now (room .exit)) r ⌝ }
 {
     if at < room.len() {
@@ -346,38 +335,21 @@ fn put_word(room: &mut [u32], at: usize, word: u32) -> usize
 }
 
 // A table's words up to the first that is none, into the room.
-fn put_words(line: &[u8], at: usize, room: &mut [u32]) -> usize
+fn lay_words(line: &[u8], at: usize, room: &mut [u32]) -> usize
     ensures { λ r. ⌜ Laid (numbersIn (wordsFrom (now (line .entry)) at)) (now (room .entry)) 0 (now (room .exit)) r ⌝ }
 {
-    let mut kept = 0;
+    let mut laid = 0;
     let mut next = at;
     loop {
         match entry_at(line, next) {
-            Entry::End => return kept,
+            Entry::End => return laid,
             Entry::Slash(to) => next = to,
             Entry::Word(word, to) => {
-                kept = put_word(room, kept, word);
+                laid = lay_word(room, laid, word);
                 next = to;
             }
-            Entry::Amiss(_) => return kept,
+            Entry::Amiss(_) => return laid,
         }
-    }
-}
-
-// Whether a command is a table.
-fn lends(command: Command) -> bool
-    ensures { λ r. ⌜ r ≡ isTable command ⌝ }
-{
-    match command {
-        Command::Nothing => false,
-        Command::Table(_) => true,
-        Command::Check => false,
-        Command::Start => false,
-        Command::Release(_, _) => false,
-        Command::Step(_) => false,
-        Command::Verdict => false,
-        Command::Show => false,
-        Command::Wrong(_) => false,
     }
 }
 
@@ -385,13 +357,10 @@ fn lends(command: Command) -> bool
 pub fn table_words(line: &[u8], room: &mut [u32]) -> usize
     ensures { λ r. ⌜ Written (tableOf (now (line .entry))) (now (room .entry)) (now (room .exit)) r ⌝ }
 {
-    let span = next_word(line, 0);
-    let from = span.from;
-    let to = span.to;
-    if from < to {
-        if lends(command_of(line)) {
-            return put_words(line, to, room);
-        }
-    }
-    0
+    let command = command_of(line);
+    let Command::Table(_) = command else {
+        return 0;
+    };
+    let first = next_word(line, 0);
+    lay_words(line, first.to, room)
 }

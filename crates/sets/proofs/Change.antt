@@ -166,14 +166,6 @@ has-without w x k j l = go (eqb j k) refl
     go true e = rw (eqb-true j k e) (has-without-same w x k l)
     go false e = has-without-other w x k j (eqb-false j k e)
 
--- in a set of the width an index at or beyond it is no member, so `without` leaves none whatever the index
-pub has-without-gone : (w x k : ℕ) → x < 2 ^ w → has (withoutOf w x k) k ≡ false
-has-without-gone w x k h = go (ltb k w) refl
-  where
-    go : (c : Bool) → ltb k w ≡ c → has (withoutOf w x k) k ≡ false
-    go true q = has-without-same w x k (ltb-true k w q)
-    go false q = rw (without-beyond w x k (ltb-false k w q)) (has-beyond w x k h (ltb-false k w q))
-
 -- ---- bounds
 
 pub with-below : (w x k : ℕ) → x < 2 ^ w → withOf w x k < 2 ^ w

@@ -71,21 +71,9 @@ ones-empty =
     let half : n / 2 ≡ zero = ih (omega arith) in
     omega arith)
 
-pub ones-zero : ones zero ≡ zero
-unfolding ones
-ones-zero = refl
-
 pub size-empty : (x : ℕ) → sizeOf x ≡ zero → x ≡ zero
 size-empty x e = ones-empty x (sym (size-ones x) ∙ e)
-
-pub size-some : (x : ℕ) → x ≢ zero → zero < sizeOf x
-size-some x n =
-    let m : sizeOf x ≢ zero = λ (e : sizeOf x ≡ zero). n (size-empty x e) in
-    omega arith
 
 pub size-zero : sizeOf zero ≡ zero
 unfolding sizeOf
 size-zero = refl
-
-pub size-le : (w x : ℕ) → x < 2 ^ w → sizeOf x ≤ w
-size-le w x h = rw size-ones (ones-le w x h)

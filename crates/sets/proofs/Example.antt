@@ -3,9 +3,8 @@
 use mathlib.Core.Path.{_≡_, refl}
 use mathlib.Core.Bool.{true, false}
 use mathlib.Core.List.{[], _∷_}
-use Rattle.sets.specs.Member.{width, has, withOf, withoutOf, sizeOf, members, lowestOf}
+use Rattle.sets.specs.Member.{width, has, withOf, withoutOf, sizeOf, members}
 use Rattle.sets.specs.Visit.{visit}
-use Rattle.sets.specs.declared.Least.the-variants.{At, Nobody}
 
 -- {0, 2, 31} is 1 + 4 + 2147483648
 there : has 2147483653 31 ≡ true
@@ -56,11 +55,3 @@ three = refl
 three-visited : visit 3 width 2147483653 ≡ 0 ∷ 2 ∷ 31 ∷ []
 unfolding visit withoutOf lib.Count.trailingZeros
 three-visited = refl
-
-first : lowestOf width 2147483648 ≡ At 31
-unfolding lowestOf
-first = refl
-
-nobody : lowestOf width 0 ≡ Nobody
-unfolding lowestOf
-nobody = refl

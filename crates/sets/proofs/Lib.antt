@@ -5,3 +5,4 @@ pub mod Trailing
 pub mod Count
 pub mod Visit
 pub mod Example
+pub mod Search

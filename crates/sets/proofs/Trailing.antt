@@ -81,22 +81,8 @@ pub lowest-le : (w x k : ℕ) → has x k ≡ true → trailingZeros w x ≤ k
 lowest-le w x k e =
     not-lt-le (λ (l : k < trailingZeros w x). let z : _≡_ {A = ℕ} 0 1 = sym (below-bit w x k l) ∙ has-bit x k e in omega arith)
 
--- and a member with none below it is the lowest
-pub lowest-unique : (w x k : ℕ) → k < w → has x k ≡ true → ((j : ℕ) → j < k → has x j ≡ false) → trailingZeros w x ≡ k
-lowest-unique w x k l e none =
-    let up : trailingZeros w x ≤ k = lowest-le w x k e in
-    let one : bit x (trailingZeros w x) ≡ 1 = at-bit w x (lt-of-le-of-lt up l) in
-    le-antisymm up
-    (not-lt-le (λ (g : trailingZeros w x < k).
-    let z : _≡_ {A = ℕ} 0 1 = sym (not-bit x (trailingZeros w x) (none (trailingZeros w x) g)) ∙ one in
-    omega arith))
-
 -- ---- the lowest taken out
 
--- exactly the others are left
-pub rest-has : (w x j : ℕ) → x ≢ zero → x < 2 ^ w → has (withoutOf w x (trailingZeros w x)) j ≡ (not (eqb j (trailingZeros w x)) && has x j)
-rest-has w x j n h = has-without w x (trailingZeros w x) j (lowest-below w x n h)
-
--- and the number falls: a measure for the loop
+-- the number falls: a measure for the loop
 pub rest-less : (w x : ℕ) → x ≢ zero → x < 2 ^ w → withoutOf w x (trailingZeros w x) < x
 rest-less w x n h = without-less w x (trailingZeros w x) (lowest-below w x n h) (lowest-has w x n h)

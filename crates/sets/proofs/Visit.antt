@@ -4,7 +4,7 @@
 -- Assumes nothing.
 use mathlib.Core.Path.{_≡_, refl, sym, ap, _∙_}
 use mathlib.Core.Logic.{_≢_, _⊎_, inl, inr}
-use mathlib.Core.Bool.{Bool, true, false, cond, true≢false}
+use mathlib.Core.Bool.{Bool, true, false, true≢false}
 use mathlib.Core.List.{List, [], _∷_, List·Memᴰ, List·Memᴰ·head, List·Memᴰ·tail, List·Memᴰ·cases-cons, List·Memᴰ·not-nil}
 use Prim.Native.Nat.{ℕ, zero, suc, _+_, _^_, _≤_, _<_, zero-le}
 use native.Mathlib.Nat.{le-refl}
@@ -13,9 +13,8 @@ use lib.Count.{trailingZeros}
 use lib.Dec.{eqb}
 use lib.ListN.{length}
 use borrow.Author.Tests.{eqb-true, eqb-false}
-use Rattle.sets.specs.Member.{has, withoutOf, sizeOf, membersFrom, members, firstOf, lowestOf}
-use Rattle.sets.specs.Visit.{visit, foldOf, foldIndices, Rising}
-use Rattle.sets.specs.declared.Least.the-variants.{At, Nobody}
+use Rattle.sets.specs.Member.{has, withoutOf, sizeOf, membersFrom, members}
+use Rattle.sets.specs.Visit.{visit, foldOf, Rising}
 use Rattle.sets.proofs.Digit.{has-zero}
 use Rattle.sets.proofs.Change.{has-without-same, has-without-other, without-below}
 use Rattle.sets.proofs.Trailing.{lowest-below, lowest-has, lowest-least}
@@ -23,11 +22,11 @@ use Rattle.sets.proofs.Count.{size-empty, size-zero, size-rest}
 
 -- ---- one index
 
-from-has : (n j x : ℕ) → has x j ≡ true → membersFrom (suc n) j x ≡ j ∷ membersFrom n (suc j) x
+pub from-has : (n j x : ℕ) → has x j ≡ true → membersFrom (suc n) j x ≡ j ∷ membersFrom n (suc j) x
 unfolding membersFrom
 from-has n j x e = rw e
 
-from-not : (n j x : ℕ) → has x j ≡ false → membersFrom (suc n) j x ≡ membersFrom n (suc j) x
+pub from-not : (n j x : ℕ) → has x j ≡ false → membersFrom (suc n) j x ≡ membersFrom n (suc j) x
 unfolding membersFrom
 from-not n j x e = rw e
 
@@ -82,16 +81,6 @@ unfolding members
 members-step w x n h =
     let l : trailingZeros w x < w = lowest-below w x n h in
     from-step w w zero x (trailingZeros w x) l (lowest-has w x n h) (lowest-least w x) zero-le (omega arith)
-
--- ---- the lowest
-
-pub lowest-zero : (w : ℕ) → lowestOf w zero ≡ Nobody
-unfolding lowestOf firstOf
-lowest-zero w = rw (members-zero w)
-
-pub lowest-at : (w x : ℕ) → x ≢ zero → x < 2 ^ w → lowestOf w x ≡ At (trailingZeros w x)
-unfolding lowestOf firstOf
-lowest-at w x n h = rw (members-step w x n h)
 
 -- ---- visiting
 
@@ -193,22 +182,3 @@ pub fold-step {ℓ} : {A : Type ℓ} (w : ℕ) (f : A → ℕ → A) (a : A) (x 
     → foldOf f a (members w x) ≡ foldOf f (f a (trailingZeros w x)) (members w (withoutOf w x (trailingZeros w x)))
 unfolding foldOf
 fold-step w f a x n h = rw (members-step w x n h)
-
-fold-from {ℓ} : {A : Type ℓ} (f : A → ℕ → A) (n j x : ℕ) (a : A) → foldOf f a (membersFrom n j x) ≡ foldIndices f n j x a
-unfolding foldOf foldIndices
-fold-from f zero j x a = rw (from-none j x)
-fold-from f (suc n) j x a = go (λ b. fold-from f n (suc j) x b) (has x j) refl
-  where
-    go : ((b : _) → foldOf f b (membersFrom n (suc j) x) ≡ foldIndices f n (suc j) x b) → (t : Bool) → has x j ≡ t
-        → foldOf f a (membersFrom (suc n) j x) ≡ foldIndices f n (suc j) x (cond (has x j) (f a j) a)
-    go rest true t = rw (from-has n j x t, t) (rest (f a j))
-    go rest false t = rw (from-not n j x t, t) (rest a)
-
--- folding over the members is looking at each index from 0 to the width
-pub fold-indices {ℓ} : {A : Type ℓ} (w : ℕ) (f : A → ℕ → A) (a : A) (x : ℕ) → foldOf f a (members w x) ≡ foldIndices f w zero x a
-unfolding members
-fold-indices w f a x = fold-from f w zero x a
-
--- and so is folding over a visit by trailing zeros
-pub fold-visit {ℓ} : {A : Type ℓ} (w : ℕ) (f : A → ℕ → A) (a : A) (x : ℕ) → x < 2 ^ w → foldOf f a (visit (sizeOf x) w x) ≡ foldIndices f w zero x a
-fold-visit w f a x h = ap (foldOf f a) (visit-members w x h) ∙ fold-indices w f a x

@@ -6,8 +6,6 @@ use mathlib.Core.Bool.{Bool, cond}
 use mathlib.Core.List.{List, [], _∷_}
 use Prim.Native.Nat.{ℕ, zero, suc, _+_, _-_, _/_, _%_, _^_}
 use lib.Dec.{ltb, eqb}
-use Rattle.sets.specs.declared.Least.{Least}
-use Rattle.sets.specs.declared.Least.the-variants.{At, Nobody}
 
 -- how many digits the number has that holds a set: a `u32`
 abbrev pub width : ℕ
@@ -63,13 +61,3 @@ membersFrom (suc n) j x =
 unfoldable pub members : (w x : ℕ) → List ℕ
 unfolding membersFrom
 members w x = membersFrom w zero x
-
--- the first of a list of members, or nobody
-unfoldable pub firstOf : List ℕ → Least
-firstOf [] = Nobody
-firstOf (k ∷ ks) = At k
-
--- the lowest member of x, or nobody where x is empty
-unfoldable pub lowestOf : (w x : ℕ) → Least
-unfolding members firstOf
-lowestOf w x = firstOf (members w x)

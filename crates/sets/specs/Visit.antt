@@ -1,11 +1,10 @@
 -- How a loop goes through a set: it takes the lowest member by trailing zeros, takes it out, and goes on. The laws of `proofs/Visit.antt` say
 -- that this visits exactly the members of `specs/Member.antt`, lowest first, each once.
 -- Assumes nothing.
-use mathlib.Core.Bool.{cond}
 use mathlib.Core.List.{List, [], _∷_}
 use Prim.Native.Nat.{ℕ, zero, suc, _≤_}
 use lib.Count.{trailingZeros}
-use Rattle.sets.specs.Member.{has, withoutOf}
+use Rattle.sets.specs.Member.{withoutOf}
 
 -- the first n members of x that a loop meets: the lowest, and those of the set without it
 unfoldable pub visit : (n w x : ℕ) → List ℕ
@@ -16,11 +15,6 @@ visit (suc n) w x = trailingZeros w x ∷ visit n w (withoutOf w x (trailingZero
 unfoldable pub foldOf {ℓ} : {A : Type ℓ} → (A → ℕ → A) → A → List ℕ → A
 foldOf f a [] = a
 foldOf f a (k ∷ ks) = foldOf f (f a k) ks
-
--- the same by looking at each of the n indices from j on
-unfoldable pub foldIndices {ℓ} : {A : Type ℓ} → (A → ℕ → A) → (n j x : ℕ) → A → A
-foldIndices f zero j x a = a
-foldIndices f (suc n) j x a = foldIndices f n (suc j) x (cond (has x j) (f a j) a)
 
 -- each number of the list is above the one before it, and the first at least j
 abbrev pub Rising : ℕ → List ℕ → Type 0

@@ -4,7 +4,8 @@ use mathlib.Core.Path.{_≡_, refl}
 use mathlib.Core.List.{List, [], _∷_}
 use Prim.Native.Nat.{ℕ}
 use Rattle.table.specs.Table.{lock, unlock, Table}
-use Rattle.table.specs.Check.{SHORT, COUNT, RANGE, STEP, NEST, sound, refused, checkOf, wordIn, stepIn, planIn, taskIn, tasksIn}
+use Rattle.table.specs.Check.{sound, refused, checkOf, wordIn, stepIn, planIn, taskIn, tasksIn}
+use Rattle.numbers.specs.Answers.{SHORT, COUNT, RANGE, STEP, NEST}
 use Rattle.table.specs.Held.{holds}
 use Rattle.table.specs.Floor.{locks, deadlinesOf, least, floorOf}
 use Rattle.table.specs.Valid.{Valid}

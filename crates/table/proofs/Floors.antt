@@ -30,7 +30,7 @@ least-le {x} (later {y = y} {xs = z ∷ xs} a) =
     let below : least (z ∷ xs) ≤ x = least-le a in
     omega arith
 
-least-one : (x : ℕ) → least (x ∷ []) ≡ x
+pub least-one : (x : ℕ) → least (x ∷ []) ≡ x
 unfolding least
 least-one x = refl
 
@@ -123,22 +123,22 @@ floor-user t i r h e =
 
 -- ---- the set of users
 
-users-user : (j : ℕ) (task : Task) (tasks : List Task) (r : ℕ) → uses task r ≡ true →
+pub users-user : (j : ℕ) (task : Task) (tasks : List Task) (r : ℕ) → uses task r ≡ true →
     usersFrom j (task ∷ tasks) r ≡ withOf width (usersFrom (suc j) tasks r) j
 unfolding usersFrom
 users-user j task tasks r e = rw e
 
-users-other : (j : ℕ) (task : Task) (tasks : List Task) (r : ℕ) → uses task r ≡ false →
+pub users-other : (j : ℕ) (task : Task) (tasks : List Task) (r : ℕ) → uses task r ≡ false →
     usersFrom j (task ∷ tasks) r ≡ usersFrom (suc j) tasks r
 unfolding usersFrom
 users-other j task tasks r e = rw e
 
-users-none : (j r : ℕ) → usersFrom j [] r ≡ 0
+pub users-none : (j r : ℕ) → usersFrom j [] r ≡ 0
 unfolding usersFrom
 users-none j r = refl
 
 -- One task more changes its own membership alone.
-users-next : (j : ℕ) (task : Task) (tasks : List Task) (r i : ℕ) → i ≢ j →
+pub users-next : (j : ℕ) (task : Task) (tasks : List Task) (r i : ℕ) → i ≢ j →
     has (usersFrom j (task ∷ tasks) r) i ≡ has (usersFrom (suc j) tasks r) i
 users-next j task tasks r i n = go (uses task r) refl
   where
@@ -146,11 +146,11 @@ users-next j task tasks r i n = go (uses task r) refl
     go true e = rw (users-user j task tasks r e) (has-with-other width (usersFrom (suc j) tasks r) j i n)
     go false e = rw (users-other j task tasks r e)
 
-users-before : (j : ℕ) (tasks : List Task) (r i : ℕ) → i < j → has (usersFrom j tasks r) i ≡ false
+pub users-before : (j : ℕ) (tasks : List Task) (r i : ℕ) → i < j → has (usersFrom j tasks r) i ≡ false
 users-before j [] r i h = rw (users-none j r) (has-zero i)
 users-before j (task ∷ tasks) r i h = users-next j task tasks r i (omega arith) ∙ users-before (suc j) tasks r i (omega arith)
 
-users-here : (j : ℕ) (task : Task) (tasks : List Task) (r : ℕ) → j < width → has (usersFrom j (task ∷ tasks) r) j ≡ uses task r
+pub users-here : (j : ℕ) (task : Task) (tasks : List Task) (r : ℕ) → j < width → has (usersFrom j (task ∷ tasks) r) j ≡ uses task r
 users-here j task tasks r h = go (uses task r) refl
   where
     go : (t : Bool) → uses task r ≡ t → has (usersFrom j (task ∷ tasks) r) j ≡ t

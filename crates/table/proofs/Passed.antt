@@ -12,31 +12,28 @@ use lib.Dec.{ltb, leb, eqb, lit<}
 use lib.ListN.{length, getD, drop}
 use lib.Seq.{drop-cons}
 use borrow.Author.Tests.{ltb-true, ltb-false, leb-true, leb-false, eqb-true, not-false}
-use Rattle.table.specs.Limits.{mostTicks, mostSteps, mostHeld}
+use Rattle.table.specs.Limits.{mostTicks, mostSteps, mostHeld, atPeriod, atDeadline, atCost, atSteps, atPlan, stepSize, atResource, atLength}
 use Rattle.table.specs.Table.{Step, unlock, Task, noTask}
 use Rattle.table.specs.Held.{Section, heldAfter, holds}
-use Rattle.table.specs.Check.{RANGE, COUNT, SHORT, STEP, NEST, Read, got, bad, wordIn, brokenStep, brokenLock, nothingHeld, brokenNest, stepSaid, stepIn, planIn, taskIn, tasksIn}
+use Rattle.table.specs.Check.{Read, got, bad, _andThen_, wordIn, brokenStep, brokenLock, nothingHeld, brokenNest, stepSaid, stepIn, planIn, taskIn, tasksIn}
+use Rattle.numbers.specs.Answers.{RANGE, COUNT, SHORT, STEP, NEST}
 use Rattle.table.specs.Valid.{Allowed, Nested, ends, locks, unlocks, ValidTask}
 use Rattle.table.specs.Map.{stepsAt, taskAt, tasksAt, behind, startsFrom}
 use Rattle.table.specs.Words.{stepWords, planWords, taskWords, tasksWords}
-use Rattle.table.proofs.Tests.{never, or-false-left, or-false-right, and-left, and-right}
+use Rattle.numbers.proofs.Tests.{never, or-false-left, or-false-right, and-left, and-right}
 
 -- ---- reads in a row
 
--- One read after another.
-abbrev pub after : {A B : Type 0} → Read A → (A → ℕ → Read B) → Read B
-after read then = elim read [ got a next ↦ then a next | bad number place ↦ bad number place ]
-
 -- If both got something, so did the first, and then the second.
-both : {A B P : Type 0} (read : Read A) (then : A → ℕ → Read B) {b : B} {end : ℕ} → after read then ≡ got b end →
+pub both : {A B P : Type 0} (read : Read A) (then : A → ℕ → Read B) {b : B} {end : ℕ} → (read andThen then) ≡ got b end →
     ((a : A) (next : ℕ) → read ≡ got a next → then a next ≡ got b end → P) → P
 both (got a next) then e found = found a next refl e
 both (bad number place) then e found = never (cc)
 
-got-value : {A : Type 0} {a b : A} {i j : ℕ} → got a i ≡ got b j → a ≡ b
+pub got-value : {A : Type 0} {a b : A} {i j : ℕ} → got a i ≡ got b j → a ≡ b
 got-value e = cc
 
-got-place : {A : Type 0} {a b : A} {i j : ℕ} → got a i ≡ got b j → i ≡ j
+pub got-place : {A : Type 0} {a b : A} {i j : ℕ} → got a i ≡ got b j → i ≡ j
 got-place e = cc
 
 -- A test that has to pass, and one that has to fail.
@@ -136,48 +133,48 @@ said m c held kind r l whole nests = go (eqb kind 1) refl
           nests = rw q (unlock-nested m c held some);
         }
 
-drop-three : (ws : List ℕ) (at : ℕ) → at + 3 ≤ length ws →
-    drop at ws ≡ getD ws at 0 ∷ getD ws (at + 1) 0 ∷ getD ws (at + 2) 0 ∷ drop (at + 3) ws
+drop-three : (ws : List ℕ) (at : ℕ) → at + stepSize ≤ length ws →
+    drop at ws ≡ getD ws at 0 ∷ getD ws (at + atResource) 0 ∷ getD ws (at + atLength) 0 ∷ drop (at + stepSize) ws
 drop-three ws at h =
     rw (add-one, add-two, add-three)
     (rw (drop-cons ws at 0 (omega arith), drop-cons ws (suc at) 0 (omega arith), drop-cons ws (suc (suc at)) 0 (omega arith)))
 
-record StepGot (m c : ℕ) (held : List Section) (ws : List ℕ) (at : ℕ) (step : Step) (next : ℕ) : Type 0 where
-  there : at + 3 ≤ length ws
-  value : step ≡ stepSaid (getD ws at 0) (getD ws (at + 1) 0) (getD ws (at + 2) 0)
-  place : next ≡ at + 3
-  nests : (steps : List Step) → Nested m c (heldAfter step held) steps → Nested m c held (step ∷ steps)
-  words : drop at ws ≡ stepWords step ++ drop next ws
+pub record StepGot (m c : ℕ) (held : List Section) (ws : List ℕ) (at : ℕ) (step : Step) (next : ℕ) : Type 0 where
+  pub there : at + stepSize ≤ length ws
+  pub value : step ≡ stepSaid (getD ws at 0) (getD ws (at + atResource) 0) (getD ws (at + atLength) 0)
+  pub place : next ≡ at + stepSize
+  pub nests : (steps : List Step) → Nested m c (heldAfter step held) steps → Nested m c held (step ∷ steps)
+  pub words : drop at ws ≡ stepWords step ++ drop next ws
 
-step-got : (m c : ℕ) (held : List Section) (ws : List ℕ) (at : ℕ) {step : Step} {next : ℕ} → stepIn m c held ws at ≡ got step next →
+pub step-got : (m c : ℕ) (held : List Section) (ws : List ℕ) (at : ℕ) {step : Step} {next : ℕ} → stepIn m c held ws at ≡ got step next →
     StepGot m c held ws at step next
 unfolding stepIn
 step-got m c held ws at {step} {next} e =
     let kind = getD ws at 0 in
-    let r = getD ws (at + 1) 0 in
-    let l = getD ws (at + 2) 0 in
+    let r = getD ws (at + atResource) 0 in
+    let l = getD ws (at + atLength) 0 in
     let said′ = stepSaid kind r l in
-    let nest = cond (brokenNest said′ held) (bad NEST at) (got said′ (at + 3)) in
-    let here = passed (leb (at + 3) (length ws)) (cond (brokenStep m c kind r l) (bad STEP at) nest) SHORT (length ws) e in
+    let nest = cond (brokenNest said′ held) (bad NEST at) (got said′ (at + stepSize)) in
+    let here = passed (leb (at + stepSize) (length ws)) (cond (brokenStep m c kind r l) (bad STEP at) nest) SHORT (length ws) e in
     let whole = failed (brokenStep m c kind r l) nest STEP at (here .1) in
-    let nested = failed (brokenNest said′ held) (got said′ (at + 3)) NEST at (whole .1) in
+    let nested = failed (brokenNest said′ held) (got said′ (at + stepSize)) NEST at (whole .1) in
     let value : step ≡ said′ = sym (got-value (nested .1)) in
-    let place : next ≡ at + 3 = sym (got-place (nested .1)) in
-    let there : at + 3 ≤ length ws = leb-true (at + 3) (length ws) (here .0) in
+    let place : next ≡ at + stepSize = sym (got-place (nested .1)) in
+    let there : at + stepSize ≤ length ws = leb-true (at + stepSize) (length ws) (here .0) in
     let fine : Said m c held kind r l = said m c held kind r l (whole .0) (nested .0) in
     record {
       there = there;
       value = value;
       place = place;
       nests = rw value (fine .nests);
-      words = rw (value, place) (drop-three ws at there ∙ ap (λ (w : List ℕ). w ++ drop (at + 3) ws) (sym (fine .words)));
+      words = rw (value, place) (drop-three ws at there ∙ ap (λ (w : List ℕ). w ++ drop (at + stepSize) ws) (sym (fine .words)));
     }
 
 -- ---- a plan
 
 pub record PlanGot (left m c : ℕ) (held : List Section) (ws : List ℕ) (at : ℕ) (steps : List Step) (end : ℕ) : Type 0 where
   pub value : steps ≡ stepsAt left ws at
-  pub place : end ≡ at + 3 * left
+  pub place : end ≡ at + stepSize * left
   pub there : at ≤ length ws → end ≤ length ws
   pub count : length steps ≡ left
   pub nests : Nested m c held steps
@@ -192,7 +189,7 @@ plan-more : {left m c : ℕ} {held : List Section} {ws : List ℕ} {at : ℕ} {s
     PlanGot (suc left) m c held ws at (step ∷ rest) end
 unfolding stepsAt planWords
 plan-more {left} {m} {c} {held} {ws} {at} {step} {next} {rest} {end} s p =
-    let place : next ≡ at + 3 = s .place in
+    let place : next ≡ at + stepSize = s .place in
     record {
       value = ap₂ {C = List Step} (λ (x : Step) (xs : List Step). x ∷ xs) (s .value) (p .value ∙ ap (stepsAt left ws) place);
       place = omega arith;
@@ -219,18 +216,34 @@ plan-got zero m c held ws at {steps} {end} e =
     }
 plan-got (suc left) m c held ws at {steps} {end} e =
     both (stepIn m c held ws at)
-    (λ (step : Step) (next : ℕ). after (planIn left m c (heldAfter step held) ws next) (λ (rest : List Step) (last : ℕ). got (step ∷ rest) last)) e
+    (λ (step : Step) (next : ℕ). _andThen_ (planIn left m c (heldAfter step held) ws next) (λ (rest : List Step) (last : ℕ). got (step ∷ rest) last)) e
     (λ step next e₁ e₂. both (planIn left m c (heldAfter step held) ws next) (λ (rest : List Step) (last : ℕ). got (step ∷ rest) last) e₂
     (λ rest last e₃ e₄. subst₂ (PlanGot (suc left) m c held ws at) (got-value e₄) (got-place e₄)
     (plan-more (step-got m c held ws at e₁) (plan-got left m c (heldAfter step held) ws next e₃))))
 
 -- ---- a task
 
+-- The rest of a task behind each read.
+abbrev pub afterPlan : ℕ → ℕ → ℕ → List Step → ℕ → Read Task
+afterPlan t d c plan next = got (record { T = t; D = d; C = c; plan = plan }) next
+
+abbrev pub afterS : ℕ → List ℕ → ℕ → ℕ → ℕ → ℕ → ℕ → Read Task
+afterS m ws t d c s at₄ = planIn s m c [] ws at₄ andThen afterPlan t d c
+
+abbrev pub afterC : ℕ → List ℕ → ℕ → ℕ → ℕ → ℕ → Read Task
+afterC m ws t d c at₃ = wordIn COUNT 0 mostSteps ws at₃ andThen afterS m ws t d c
+
+abbrev pub afterD : ℕ → List ℕ → ℕ → ℕ → ℕ → Read Task
+afterD m ws t d at₂ = wordIn RANGE 1 mostTicks ws at₂ andThen afterC m ws t d
+
+abbrev pub afterT : ℕ → List ℕ → ℕ → ℕ → Read Task
+afterT m ws t at₁ = wordIn RANGE 1 mostTicks ws at₁ andThen afterD m ws t
+
 pub record TaskGot (m : ℕ) (ws : List ℕ) (at : ℕ) (task : Task) (next : ℕ) : Type 0 where
   pub value : task ≡ taskAt ws at
   pub place : next ≡ behind ws at
   pub there : next ≤ length ws
-  pub most : next ≤ at + (4 + mostSteps * 3)
+  pub most : next ≤ at + (atPlan + mostSteps * stepSize)
   pub valid : ValidTask m task
   pub words : drop at ws ≡ taskWords task ++ drop next ws
 
@@ -239,20 +252,22 @@ task-of : {m : ℕ} {ws : List ℕ} {at t at₁ d at₂ c at₃ s at₄ : ℕ} {
     TaskGot m ws at (record { T = t; D = d; C = c; plan = plan }) next
 unfolding taskAt taskWords
 task-of {m} {ws} {at} {t} {at₁} {d} {at₂} {c} {at₃} {s} {at₄} {plan} {next} wt wd wc wn p =
-    let second : at₁ ≡ at + 1 = wt .place in
-    let third : at₂ ≡ at + 2 = omega arith in
-    let fourth : at₃ ≡ at + 3 = omega arith in
-    let fifth : at₄ ≡ at + 4 = omega arith in
-    let count : s ≡ getD ws (at + 3) 0 = wn .value ∙ ap (λ (i : ℕ). getD ws i 0) fourth in
+    let first : at ≡ at + atPeriod = omega arith in
+    let second : at₁ ≡ at + atDeadline = omega (arith, wt .place) in
+    let third : at₂ ≡ at + atCost = omega (arith, wt .place, wd .place) in
+    let fourth : at₃ ≡ at + atSteps = omega (arith, wt .place, wd .place, wc .place) in
+    let fifth : at₄ ≡ at + atPlan = omega (arith, wt .place, wd .place, wc .place, wn .place) in
+    let t-value : t ≡ getD ws (at + atPeriod) 0 = wt .value ∙ ap (λ (i : ℕ). getD ws i 0) first in
+    let count : s ≡ getD ws (at + atSteps) 0 = wn .value ∙ ap (λ (i : ℕ). getD ws i 0) fourth in
     let few : s ≤ mostSteps = wn .high in
-    let steps : s ≡ min (getD ws (at + 3) 0) mostSteps = omega arith in
-    let d-value : d ≡ getD ws (at + 1) 0 = wd .value ∙ ap (λ (i : ℕ). getD ws i 0) second in
-    let c-value : c ≡ getD ws (at + 2) 0 = wc .value ∙ ap (λ (i : ℕ). getD ws i 0) third in
-    let plan-value : plan ≡ stepsAt (min (getD ws (at + 3) 0) mostSteps) ws (at + 4) =
+    let steps : s ≡ min (getD ws (at + atSteps) 0) mostSteps = omega arith in
+    let d-value : d ≡ getD ws (at + atDeadline) 0 = wd .value ∙ ap (λ (i : ℕ). getD ws i 0) second in
+    let c-value : c ≡ getD ws (at + atCost) 0 = wc .value ∙ ap (λ (i : ℕ). getD ws i 0) third in
+    let plan-value : plan ≡ stepsAt (min (getD ws (at + atSteps) 0) mostSteps) ws (at + atPlan) =
     p .value ∙ ap₂ (λ (n i : ℕ). stepsAt n ws i) steps fifth
     in
     record {
-      value = λ i. record { T = wt .value i; D = d-value i; C = c-value i; plan = plan-value i };
+      value = λ i. record { T = t-value i; D = d-value i; C = c-value i; plan = plan-value i };
       place = omega arith;
       there = p .there (omega arith);
       most = omega arith;
@@ -272,29 +287,14 @@ task-of {m} {ws} {at} {t} {at₁} {d} {at₂} {c} {at₃} {s} {at₄} {plan} {ne
 pub task-got : (m : ℕ) (ws : List ℕ) (at : ℕ) {task : Task} {next : ℕ} → taskIn m ws at ≡ got task next → TaskGot m ws at task next
 unfolding taskIn
 task-got m ws at {task} {next} e =
-    both (wordIn RANGE 1 mostTicks ws at) afterT e
-    (λ t at₁ t-got e₁. both (wordIn RANGE 1 mostTicks ws at₁) (afterD t) e₁
-    (λ d at₂ d-got e₂. both (wordIn RANGE 1 mostTicks ws at₂) (afterC t d) e₂
-    (λ c at₃ c-got e₃. both (wordIn COUNT 0 mostSteps ws at₃) (afterS t d c) e₃
+    both (wordIn RANGE 1 mostTicks ws at) (afterT m ws) e
+    (λ t at₁ t-got e₁. both (wordIn RANGE 1 mostTicks ws at₁) (afterD m ws t) e₁
+    (λ d at₂ d-got e₂. both (wordIn RANGE 1 mostTicks ws at₂) (afterC m ws t d) e₂
+    (λ c at₃ c-got e₃. both (wordIn COUNT 0 mostSteps ws at₃) (afterS m ws t d c) e₃
     (λ s at₄ s-got e₄. both (planIn s m c [] ws at₄) (afterPlan t d c) e₄
     (λ plan next p-got e₅. subst₂ (TaskGot m ws at) (got-value e₅) (got-place e₅)
     (task-of (word-got RANGE 1 mostTicks ws at t-got) (word-got RANGE 1 mostTicks ws at₁ d-got) (word-got RANGE 1 mostTicks ws at₂ c-got)
     (word-got COUNT 0 mostSteps ws at₃ s-got) (plan-got s m c [] ws at₄ p-got)))))))
-  where
-    afterPlan : ℕ → ℕ → ℕ → List Step → ℕ → Read Task
-    afterPlan t d c plan next = got (record { T = t; D = d; C = c; plan = plan }) next
-
-    afterS : ℕ → ℕ → ℕ → ℕ → ℕ → Read Task
-    afterS t d c s at₄ = after (planIn s m c [] ws at₄) (afterPlan t d c)
-
-    afterC : ℕ → ℕ → ℕ → ℕ → Read Task
-    afterC t d c at₃ = after (wordIn COUNT 0 mostSteps ws at₃) (afterS t d c)
-
-    afterD : ℕ → ℕ → ℕ → Read Task
-    afterD t d at₂ = after (wordIn RANGE 1 mostTicks ws at₂) (afterC t d)
-
-    afterT : ℕ → ℕ → Read Task
-    afterT t at₁ = after (wordIn RANGE 1 mostTicks ws at₁) (afterD t)
 
 -- ---- the tasks
 
@@ -302,7 +302,7 @@ pub record TasksGot (left m : ℕ) (ws : List ℕ) (at : ℕ) (tasks : List Task
   pub value : tasks ≡ tasksAt left 0 ws (startsFrom left ws at)
   pub count : length tasks ≡ left
   pub there : at ≤ length ws → end ≤ length ws
-  pub most : end ≤ at + left * (4 + mostSteps * 3)
+  pub most : end ≤ at + left * (atPlan + mostSteps * stepSize)
   pub each : (i : ℕ) → i < length tasks → ValidTask m (getD tasks i noTask)
   pub words : drop at ws ≡ tasksWords tasks ++ drop end ws
 
@@ -347,7 +347,7 @@ tasks-got zero m ws at {tasks} {end} e =
       words = rw (none, place);
     }
 tasks-got (suc left) m ws at {tasks} {end} e =
-    both (taskIn m ws at) (λ (task : Task) (next : ℕ). after (tasksIn left m ws next) (λ (rest : List Task) (last : ℕ). got (task ∷ rest) last)) e
+    both (taskIn m ws at) (λ (task : Task) (next : ℕ). _andThen_ (tasksIn left m ws next) (λ (rest : List Task) (last : ℕ). got (task ∷ rest) last)) e
     (λ task next e₁ e₂. both (tasksIn left m ws next) (λ (rest : List Task) (last : ℕ). got (task ∷ rest) last) e₂
     (λ rest last e₃ e₄. subst₂ (TasksGot (suc left) m ws at) (got-value e₄) (got-place e₄)
     (tasks-more (task-got m ws at e₁) (tasks-got left m ws next e₃))))

@@ -21,8 +21,8 @@ use Rattle.table.specs.Valid.{Allowed, Nested, ends, locks, unlocks}
 use Rattle.table.specs.Floor.{stepLocks, locks as locksIn}
 use Rattle.table.specs.Map.{nextOf}
 use Rattle.table.specs.Walk.{Apart}
-use Rattle.table.proofs.Tests.{never, or-left, or-right}
-use Rattle.table.proofs.Sections.{has-held as set-held}
+use Rattle.numbers.proofs.Tests.{never, or-left, or-right}
+use Rattle.table.proofs.Arrays.{has-held as set-held}
 use Rattle.table.specs.declared.Next.the-variants.{Lock, Unlock, Finish}
 
 -- Sections each of which was allowed while those below it were held.

@@ -1,23 +1,30 @@
--- Where the readings of the check end (`endOf`), one word, one step, one task at a time: what the loops of `check::walk` go by.
--- Each law opens one definition of `specs/Check.antt` at one turn. A refusal's number is never 0. Assumes nothing.
+-- Where the readings of the check end (`endOf`), one word, one step, one task at a time: what the loops of `walk::walk` go by.
+-- Each law opens one definition of `specs/Check.antt` at one turn. Assumes nothing.
 use Prim.Native.Nat.{ℕ, zero, suc, _+_, _*_, _≤_, _<_}
-use mathlib.Core.Path.{_≡_, refl, sym, ap, _∙_}
+use mathlib.Core.Path.{_≡_, refl, sym, ap, subst, _∙_}
 use mathlib.Core.Bool.{Bool, true, false, not, cond, _&&_}
 use mathlib.Core.List.{List, []}
 use native.Mathlib.Omega.{arith}
 use lib.Dec.{ltb, leb, eqb}
 use lib.ListN.{length, getD}
-use borrow.Author.Tests.{ltb-true, leb-true, leb-false, le-ltb, lt-ltb, le-leb, lt-leb, eq-eqb, ne-eqb}
-use Rattle.table.specs.Limits.{mostTicks, mostSteps}
+use borrow.Author.Tests.{ltb-true, leb-true, leb-false, le-ltb, lt-ltb, le-leb, lt-leb, eq-eqb}
+use Rattle.numbers.specs.Answers.{SHORT, COUNT, RANGE, NEST}
+use Rattle.numbers.proofs.Tests.{never}
+use Rattle.table.specs.Limits.{mostTicks, mostSteps, atPeriod, atDeadline, atCost, atSteps, atPlan, stepSize, atResource, atLength}
 use Rattle.table.specs.Table.{Task}
 use Rattle.table.specs.Held.{Section, heldAfter}
-use Rattle.table.specs.Check.{SHORT, COUNT, RANGE, STEP, NEST, Read, got, bad, wordIn, brokenStep, stepSaid, brokenNest, stepIn, planIn, taskIn, tasksIn, nothingHeld}
-use Rattle.table.specs.Walk.{endOf, headOf, heldOf, heldBehind, Fair, Leaves, StepJudged, WalkJudged}
+use Rattle.table.specs.Check.{Read, got, bad, _andThen_, wordIn, brokenStep, stepSaid, brokenNest, stepIn, planIn, taskIn, tasksIn, nothingHeld}
+use Rattle.table.specs.Said.{says, saidOf}
+use Rattle.table.specs.Walk.{endOf, stoppedBy, wordOf, stoppedOf, sectionsIn, heldBehind, Fair, Leaves, HeadJudged, StepJudged, WalkJudged}
 use Rattle.table.specs.Map.{behind}
-use Rattle.table.specs.declared.check.Sections.{Sections}
-use Rattle.table.specs.declared.check.Head.{Head}
-use Rattle.table.specs.declared.check.Stepped.{Stepped}
-use Rattle.table.specs.declared.check.Walked.{Walked}
+use Rattle.table.specs.declared.Finding.{Finding}
+use Rattle.table.specs.declared.Finding.the-variants.{Sound, Short, Range, Count, Step, Nest}
+use Rattle.table.specs.declared.words.Word.{Word}
+use Rattle.table.specs.declared.words.Head.{Head}
+use Rattle.table.specs.declared.sections.Sections.{Sections}
+use Rattle.table.specs.declared.steps.Stepped.{Stepped}
+use Rattle.table.specs.declared.walk.Walked.{Walked}
+use Rattle.table.proofs.Findings.{refusal}
 
 -- What is not at most the other is above it.
 pub not-leb : (a b : ℕ) → not (leb a b) ≡ ltb b a
@@ -36,51 +43,43 @@ pub seen : {A : Type 0} (x : Read A) → Seen x
 seen (got a place) = gets a place refl
 seen (bad number place) = refuses number place refl
 
--- One step, as `check::read_step` answers it in each case.
+-- One step, as `steps::read_step` answers it in each case.
 module _ (m c : ℕ) (sections : Sections) (ws : List ℕ) (at : ℕ) (fair : Fair sections) where
-  pub step-short : length ws < at + 3 → StepJudged m c sections ws at (record { number = SHORT; place = length ws; sections = sections })
+  pub step-short : length ws < at + stepSize → StepJudged m c sections ws at (record { finding = Short (length ws); sections = sections })
   unfolding stepIn
   step-short h = record {
-    reads = rw (lt-leb (at + 3) (length ws) h);
-    few = omega arith;
-    place = omega arith;
-    room = omega arith;
+    reads = rw (lt-leb (at + stepSize) (length ws) h);
+    room = λ e. never (cc);
     fair = fair;
   }
 
-  module _ (h : at + 3 ≤ length ws) where
-    pub step-broken : (t : Bool) → t ≡ brokenStep m c (getD ws at 0) (getD ws (at + 1) 0) (getD ws (at + 2) 0) → t ≡ true →
-        StepJudged m c sections ws at (record { number = STEP; place = at; sections = sections })
+  module _ (h : at + stepSize ≤ length ws) where
+    pub step-broken : (t : Bool) → t ≡ brokenStep m c (getD ws at 0) (getD ws (at + atResource) 0) (getD ws (at + atLength) 0) → t ≡ true →
+        StepJudged m c sections ws at (record { finding = Step at; sections = sections })
     unfolding stepIn
     step-broken t e q = record {
-      reads = rw (le-leb (at + 3) (length ws) h, ← e, q);
-      few = omega arith;
-      place = omega arith;
-      room = omega arith;
+      reads = rw (le-leb (at + stepSize) (length ws) h, ← e, q);
+      room = λ e. never (cc);
       fair = fair;
     }
 
-    module _ (t : Bool) (e : t ≡ brokenStep m c (getD ws at 0) (getD ws (at + 1) 0) (getD ws (at + 2) 0)) (q : t ≡ false) where
-      pub step-nest : (u : Bool) → u ≡ brokenNest (stepSaid (getD ws at 0) (getD ws (at + 1) 0) (getD ws (at + 2) 0)) (heldOf sections) → u ≡ true →
-          StepJudged m c sections ws at (record { number = NEST; place = at; sections = sections })
+    module _ (t : Bool) (e : t ≡ brokenStep m c (getD ws at 0) (getD ws (at + atResource) 0) (getD ws (at + atLength) 0)) (q : t ≡ false) where
+      pub step-nest : (u : Bool) → u ≡ brokenNest (stepSaid (getD ws at 0) (getD ws (at + atResource) 0) (getD ws (at + atLength) 0)) (sectionsIn sections) → u ≡ true →
+          StepJudged m c sections ws at (record { finding = Nest at; sections = sections })
       unfolding stepIn
       step-nest u n v = record {
-        reads = rw (le-leb (at + 3) (length ws) h, ← e, q, ← n, v);
-        few = omega arith;
-        place = omega arith;
-        room = omega arith;
+        reads = rw (le-leb (at + stepSize) (length ws) h, ← e, q, ← n, v);
+        room = λ e. never (cc);
         fair = fair;
       }
 
-      pub step-goes : (after : Sections) (u : Bool) → u ≡ brokenNest (stepSaid (getD ws at 0) (getD ws (at + 1) 0) (getD ws (at + 2) 0)) (heldOf sections) → u ≡ false →
-          Leaves (heldAfter (stepSaid (getD ws at 0) (getD ws (at + 1) 0) (getD ws (at + 2) 0)) (heldOf sections)) after →
-          StepJudged m c sections ws at (record { number = 0; place = at + 3; sections = after })
+      pub step-goes : (after : Sections) (u : Bool) → u ≡ brokenNest (stepSaid (getD ws at 0) (getD ws (at + atResource) 0) (getD ws (at + atLength) 0)) (sectionsIn sections) → u ≡ false →
+          Leaves (heldAfter (stepSaid (getD ws at 0) (getD ws (at + atResource) 0) (getD ws (at + atLength) 0)) (sectionsIn sections)) after →
+          StepJudged m c sections ws at (record { finding = Sound; sections = after })
       unfolding stepIn
       step-goes after u n v l = record {
-        reads = rw (le-leb (at + 3) (length ws) h, ← e, q, ← n, v, l .held-is);
-        few = omega arith;
-        place = omega arith;
-        room = omega arith;
+        reads = rw (le-leb (at + stepSize) (length ws) h, ← e, q, ← n, v, l .held-is);
+        room = λ e. h;
         fair = l .fair;
       }
 
@@ -131,70 +130,127 @@ module _ (left m c : ℕ) (held : List Section) (ws : List ℕ) (at : ℕ) where
           let y : place ≡ p = cc in
           rw (f, planIn) (rw (x, y))
 
--- One word is there and within its limits, or refused; a refusal's number is not 0.
-pub data WordRead (number least most : ℕ) (ws : List ℕ) (at : ℕ) : Type 0 where
-  reads : at < length ws → getD ws at 0 ≤ most → wordIn number least most ws at ≡ got (getD ws at 0) (at + 1) → WordRead number least most ws at
-  stops : (n place : ℕ) → n < NEST → wordIn number least most ws at ≡ bad (suc n) place → WordRead number least most ws at
+-- One word, as `words::read_word` answers it: it is there and within its limits, or it is refused.
+pub record WordSound (number least most : ℕ) (ws : List ℕ) (at : ℕ) (w : Word) : Type 0 where
+  pub there : at < length ws
+  pub bound : w .value ≤ most
+  pub value : w .value ≡ getD ws at 0
+  pub word : wordIn number least most ws at ≡ got (w .value) (at + 1)
 
-pub word-read : (k least most : ℕ) (ws : List ℕ) (at : ℕ) → k < NEST → WordRead (suc k) least most ws at
-unfolding wordIn
-word-read k least most ws at h = go (ltb at (length ws)) refl (leb least (getD ws at 0)) refl (leb (getD ws at 0) most) refl
-  where
-    go : (a : Bool) → ltb at (length ws) ≡ a → (b : Bool) → leb least (getD ws at 0) ≡ b → (d : Bool) → leb (getD ws at 0) most ≡ d →
-        WordRead (suc k) least most ws at
-    go false e b f d g = stops 0 (length ws) (omega arith) (rw e)
-    go true e false f d g = stops k at h (rw (e, f))
-    go true e true f false g = stops k at h (rw (e, f, g))
-    go true e true f true g = reads (ltb-true at (length ws) e) (leb-true (getD ws at 0) most g) (rw (e, f, g))
+pub record WordRefused (number least most : ℕ) (ws : List ℕ) (at : ℕ) (w : Word) : Type 0 where
+  pub by : ℕ
+  pub place : ℕ
+  pub said : saidOf (w .finding) ≡ says by place
+  pub word : wordIn number least most ws at ≡ bad by place
 
-eqb-suc : (n : ℕ) → eqb (suc n) 0 ≡ false
-eqb-suc n = ne-eqb (suc n) 0 (omega arith)
+pub data WordRead (number least most : ℕ) (ws : List ℕ) (at : ℕ) (w : Word) : Type 0 where
+  reads : w .finding ≡ Sound → WordSound number least most ws at w → WordRead number least most ws at w
+  stops : WordRefused number least most ws at w → WordRead number least most ws at w
 
--- A task's first four words are sound and lead to its plan, or one of them is refused.
-pub data HeadRead (ws : List ℕ) (at : ℕ) : Type 0 where
-  begins : at + 4 ≤ length ws →
-      headOf ws at ≡ record { number = 0; place = at + 4; cost = getD ws (at + 2) 0; steps = getD ws (at + 3) 0 } →
-      ((m : ℕ) → endOf (taskIn m ws at) ≡ endOf (planIn (getD ws (at + 3) 0) m (getD ws (at + 2) 0) [] ws (at + 4))) → HeadRead ws at
-  stops : (n place cost steps : ℕ) → n < NEST → headOf ws at ≡ record { number = suc n; place = place; cost = cost; steps = steps } →
-      ((m : ℕ) → endOf (taskIn m ws at) ≡ bad (suc n) place) → HeadRead ws at
+module _ (number : ℕ) (outside : Finding) (least most : ℕ) (ws : List ℕ) (at : ℕ) (w : Word) (is : saidOf outside ≡ says number at)
+    (told : w ≡ wordOf outside least most ws at) where
+  pub word-read : WordRead number least most ws at w
+  unfolding wordIn
+  word-read = rw told (go (ltb at (length ws)) refl (leb least (getD ws at 0)) refl (leb (getD ws at 0) most) refl)
+    where
+      go : (a : Bool) → ltb at (length ws) ≡ a → (b : Bool) → leb least (getD ws at 0) ≡ b → (d : Bool) → leb (getD ws at 0) most ≡ d →
+          WordRead number least most ws at (wordOf outside least most ws at)
+      go false e b f d g = stops (record { by = SHORT; place = length ws; said = rw e; word = rw e })
+      go true e false f d g = stops (record { by = number; place = at; said = rw (e, f) is; word = rw (e, f) })
+      go true e true f false g = stops (record { by = number; place = at; said = rw (e, f, g) is; word = rw (e, f, g) })
+      go true e true f true g =
+          reads (rw (e, f, g))
+          (record { there = ltb-true at (length ws) e; bound = rw (e, f, g) (leb-true (getD ws at 0) most g); value = rw (e, f, g); word = rw (e, f, g) })
 
-pub head-read : (ws : List ℕ) (at : ℕ) → HeadRead ws at
-unfolding headOf taskIn
-head-read ws at = go₁ (word-read 2 1 mostTicks ws at (omega arith))
-  where
-    go₅ : (m : ℕ) → Seen (planIn (getD ws (at + 3) 0) m (getD ws (at + 2) 0) [] ws (at + 4)) →
-        endOf {A = Task} (elim (planIn (getD ws (at + 3) 0) m (getD ws (at + 2) 0) [] ws (at + 4)) [
-          | got plan next ↦ got (record { T = getD ws at 0; D = getD ws (at + 1) 0; C = getD ws (at + 2) 0; plan = plan }) next
-          | bad number place ↦ bad number place
-        ]) ≡ endOf (planIn (getD ws (at + 3) 0) m (getD ws (at + 2) 0) [] ws (at + 4))
-    go₅ m (gets plan next e) = rw e
-    go₅ m (refuses n p e) = rw e
+  pub word-sound : w .finding ≡ Sound → WordSound number least most ws at w
+  word-sound e = go word-read
+    where
+      go : WordRead number least most ws at w → WordSound number least most ws at w
+      go (reads q s) = s
+      go (stops r) =
+          let z = sym (ap saidOf e) ∙ r .said in
+          never (cc)
 
-    go₄ : wordIn RANGE 1 mostTicks ws at ≡ got (getD ws at 0) (at + 1) →
-        wordIn RANGE 1 mostTicks ws (at + 1) ≡ got (getD ws (at + 1) 0) (at + 2) →
-        wordIn RANGE 1 mostTicks ws (at + 2) ≡ got (getD ws (at + 2) 0) (at + 3) → WordRead COUNT 0 mostSteps ws (at + 3) → HeadRead ws at
-    go₄ e₁ e₂ e₃ (stops n p h e) = stops n p (getD ws (at + 2) 0) 0 h (rw (e₁, e₂, e₃, e)) (λ m. rw (e₁, taskIn) (rw e₂ (rw e₃ (rw e))))
-    go₄ e₁ e₂ e₃ (reads l b e) =
-        let p : at + 3 + 1 ≡ at + 4 = omega arith in
-        let e₄ : wordIn COUNT 0 mostSteps ws (at + 3) ≡ got (getD ws (at + 3) 0) (at + 4) = rw p at e in
-        begins (omega arith) (rw (e₁, e₂, e₃, e₄)) (λ m. rw (e₁, taskIn) (rw e₂ (rw e₃ (rw e₄ (go₅ m (seen (planIn (getD ws (at + 3) 0) m (getD ws (at + 2) 0) [] ws (at + 4))))))))
+  pub word-refused : (w .finding ≡ Sound → ⊥) → WordRefused number least most ws at w
+  word-refused n = go word-read
+    where
+      go : WordRead number least most ws at w → WordRefused number least most ws at w
+      go (reads q s) = absurd (n q)
+      go (stops r) = r
 
-    go₃ : wordIn RANGE 1 mostTicks ws at ≡ got (getD ws at 0) (at + 1) →
-        wordIn RANGE 1 mostTicks ws (at + 1) ≡ got (getD ws (at + 1) 0) (at + 2) → WordRead RANGE 1 mostTicks ws (at + 2) → HeadRead ws at
-    go₃ e₁ e₂ (stops n p h e) = stops n p 0 0 h (rw (e₁, e₂, e, eqb-suc n)) (λ m. rw (e₁, taskIn) (rw e₂ (rw e)))
-    go₃ e₁ e₂ (reads l b e) =
-        let p : at + 2 + 1 ≡ at + 3 = omega arith in
-        go₄ e₁ e₂ (rw p at e) (word-read 1 0 mostSteps ws (at + 3) (omega arith))
+-- A task's first words, as `words::read_head` answers them: each is asked for only where those before it are sound.
+module _ (ws : List ℕ) (at : ℕ) (t : Word) where
+  abbrev Period : Type 0
+  Period = WordSound RANGE 1 mostTicks ws (at + atPeriod) t
 
-    go₂ : wordIn RANGE 1 mostTicks ws at ≡ got (getD ws at 0) (at + 1) → WordRead RANGE 1 mostTicks ws (at + 1) → HeadRead ws at
-    go₂ e₁ (stops n p h e) = stops n p 0 0 h (rw (e₁, e, eqb-suc n)) (λ m. rw (e₁, taskIn) (rw e))
-    go₂ e₁ (reads l b e) =
-        let p : at + 1 + 1 ≡ at + 2 = omega arith in
-        go₃ e₁ (rw p at e) (word-read 2 1 mostTicks ws (at + 2) (omega arith))
+  pub period-refused : WordRefused RANGE 1 mostTicks ws (at + atPeriod) t → HeadJudged ws at (stoppedOf (t .finding))
+  unfolding taskIn
+  period-refused r =
+      let first : at + atPeriod ≡ at = omega arith in
+      let e = rw first at (r .word) in
+      record {
+        reads = λ m. rw (e, taskIn, r .said);
+        room = λ q. let z = sym (ap saidOf q) ∙ r .said in never (cc);
+        count = λ q. let z = sym (ap saidOf q) ∙ r .said in never (cc);
+      }
 
-    go₁ : WordRead RANGE 1 mostTicks ws at → HeadRead ws at
-    go₁ (stops n p h e) = stops n p 0 0 h (rw (e, eqb-suc n)) (λ m. rw (e, taskIn))
-    go₁ (reads l b e) = go₂ e (word-read 2 1 mostTicks ws (at + 1) (omega arith))
+  module _ (period : Period) where
+    first-word : wordIn RANGE 1 mostTicks ws at ≡ got (t .value) (at + atDeadline)
+    first-word =
+        let first : at + atPeriod ≡ at = omega arith in
+        rw first at (period .word)
+
+    pub deadline-refused : (d : Word) → WordRefused RANGE 1 mostTicks ws (at + atDeadline) d → HeadJudged ws at (stoppedOf (d .finding))
+    unfolding taskIn
+    deadline-refused d r = record {
+      reads = λ m. rw (first-word, taskIn) (rw (r .word, r .said));
+      room = λ q. let z = sym (ap saidOf q) ∙ r .said in never (cc);
+      count = λ q. let z = sym (ap saidOf q) ∙ r .said in never (cc);
+    }
+
+    module _ (d : Word) (deadline : WordSound RANGE 1 mostTicks ws (at + atDeadline) d) where
+      second-word : wordIn RANGE 1 mostTicks ws (at + atDeadline) ≡ got (d .value) (at + atCost)
+      second-word =
+          let next : at + atDeadline + 1 ≡ at + atCost = omega arith in
+          rw next at (deadline .word)
+
+      pub cost-refused : (c : Word) → WordRefused RANGE 1 mostTicks ws (at + atCost) c → HeadJudged ws at (stoppedOf (c .finding))
+      unfolding taskIn
+      cost-refused c r = record {
+        reads = λ m. rw (first-word, taskIn) (rw second-word (rw (r .word, r .said)));
+        room = λ q. let z = sym (ap saidOf q) ∙ r .said in never (cc);
+        count = λ q. let z = sym (ap saidOf q) ∙ r .said in never (cc);
+      }
+
+      module _ (c : Word) (cost : WordSound RANGE 1 mostTicks ws (at + atCost) c) where
+        third-word : wordIn RANGE 1 mostTicks ws (at + atCost) ≡ got (c .value) (at + atSteps)
+        third-word =
+            let next : at + atCost + 1 ≡ at + atSteps = omega arith in
+            rw next at (cost .word)
+
+        -- The plan behind them, whatever the task is.
+        plan-last : (m : ℕ) (s : ℕ) → Seen (planIn s m (c .value) [] ws (at + atPlan)) →
+            endOf {A = Task} (planIn s m (c .value) [] ws (at + atPlan) andThen λ plan next.
+            got (record { T = t .value; D = d .value; C = c .value; plan = plan }) next) ≡ endOf (planIn s m (c .value) [] ws (at + atPlan))
+        plan-last m s (gets plan next e) = rw e
+        plan-last m s (refuses n p e) = rw e
+
+        pub head-judged : (s : Word) → WordRead COUNT 0 mostSteps ws (at + atSteps) s →
+            HeadJudged ws at (record { finding = s .finding; cost = c .value; steps = s .value })
+        unfolding taskIn
+        head-judged s (reads e w) =
+            let next : at + atSteps + 1 ≡ at + atPlan = omega arith in
+            let last : wordIn COUNT 0 mostSteps ws (at + atSteps) ≡ got (s .value) (at + atPlan) = rw next at (w .word) in
+            record {
+              reads = λ m. rw (first-word, taskIn) (rw second-word (rw third-word (rw (last, e) (plan-last m (s .value) (seen (planIn (s .value) m (c .value) [] ws (at + atPlan)))))));
+              room = λ q. omega (arith, w .there);
+              count = λ q. w .value;
+            }
+        head-judged s (stops r) = record {
+          reads = λ m. rw (first-word, taskIn) (rw second-word (rw third-word (rw (r .word, r .said))));
+          room = λ q. let z = sym (ap saidOf q) ∙ r .said in never (cc);
+          count = λ q. let z = sym (ap saidOf q) ∙ r .said in never (cc);
+        }
 
 -- What is left of a plan after its last step.
 pub plan-ends : (m c : ℕ) (held : List Section) (ws : List ℕ) (at : ℕ) → held ≡ [] → endOf (planIn zero m c held ws at) ≡ got tt at
@@ -238,68 +294,37 @@ module _ (left m : ℕ) (ws : List ℕ) (at : ℕ) where
           let y : p ≡ place = cc in
           rw (f, tasksIn) (rw (x, y))
 
-  -- The head's words, as `check::read_head` answers them.
-  module _ (head : Head) (told : head ≡ headOf ws at) where
-    pub head-stops : (head .number ≡ 0 → ⊥) → endOf (tasksIn (suc left) m ws at) ≡ bad (head .number) (head .place)
-    head-stops n = go (head-read ws at)
-      where
-        go : HeadRead ws at → endOf (tasksIn (suc left) m ws at) ≡ bad (head .number) (head .place)
-        go (begins h e f) = absurd (n (ap (λ (x : Head). x .number) (told ∙ e)))
-        go (stops k p c s h e f) =
-            tasks-stops (suc k) p (f m) ∙ rw (told ∙ e)
+  -- The first words, as `words::read_head` answers them.
+  module _ (head : Head) (judged : HeadJudged ws at head) where
+    pub head-stops : (head .finding ≡ Sound → ⊥) → (end : ℕ) → endOf (tasksIn (suc left) m ws at) ≡ stoppedBy (head .finding) (got tt end)
+    head-stops n end =
+        let r = refusal (head .finding) n in
+        rw (r .said) (tasks-stops (r .number) (r .place) (rw (r .said) at (judged .reads m)))
 
-    pub head-few : head .number ≤ NEST
-    head-few = go (head-read ws at)
-      where
-        go : HeadRead ws at → head .number ≤ NEST
-        go (begins h e f) = rw (told ∙ e) (omega arith)
-        go (stops k p c s h e f) = rw (told ∙ e) (omega arith)
+    pub head-place : head .finding ≡ Sound → at + atPlan + stepSize * head .steps ≡ behind ws at
+    head-place e = ap (λ (s : ℕ). at + atPlan + stepSize * s) (judged .count e)
 
-    pub head-place : head .number ≡ 0 → head .place + 3 * head .steps ≡ behind ws at
-    head-place n = go (head-read ws at)
-      where
-        go : HeadRead ws at → head .place + 3 * head .steps ≡ behind ws at
-        go (begins h e f) = rw (told ∙ e) (omega arith)
-        go (stops k p c s h e f) =
-            let z : suc k ≡ 0 = sym (ap (λ (x : Head). x .number) (told ∙ e)) ∙ n in
-            absurd (omega arith)
-
-    pub head-room : head .number ≡ 0 → head .place ≤ length ws
-    head-room n = go (head-read ws at)
-      where
-        go : HeadRead ws at → head .place ≤ length ws
-        go (begins h e f) = rw (told ∙ e) h
-        go (stops k p c s h e f) =
-            let z : suc k ≡ 0 = sym (ap (λ (x : Head). x .number) (told ∙ e)) ∙ n in
-            absurd (omega arith)
-
-    pub head-goes : head .number ≡ 0 → endOf (taskIn m ws at) ≡ endOf (planIn (head .steps) m (head .cost) [] ws (head .place))
-    head-goes n = go (head-read ws at)
-      where
-        go : HeadRead ws at → endOf (taskIn m ws at) ≡ endOf (planIn (head .steps) m (head .cost) [] ws (head .place))
-        go (begins h e f) = rw (told ∙ e) (f m)
-        go (stops k p c s h e f) =
-            let z : suc k ≡ 0 = sym (ap (λ (x : Head). x .number) (told ∙ e)) ∙ n in
-            absurd (omega arith)
+    pub head-goes : head .finding ≡ Sound → endOf (taskIn m ws at) ≡ endOf (planIn (head .steps) m (head .cost) [] ws (at + atPlan))
+    head-goes e = rw e at (judged .reads m)
 
 -- All tasks are read.
 pub tasks-end : (m : ℕ) (ws : List ℕ) (at : ℕ) → endOf (tasksIn zero m ws at) ≡ got tt at
 unfolding tasksIn
 tasks-end m ws at = refl
 
--- The next step, as `check::read_step` answers it.
+-- The next step, as `steps::read_step` answers it.
 module _ (left m c : ℕ) (sections : Sections) (ws : List ℕ) (at : ℕ) (r : Stepped) (judged : StepJudged m c sections ws at r) where
-  pub step-on : r .number ≡ 0 → endOf (planIn (suc left) m c (heldOf sections) ws at) ≡ endOf (planIn left m c (heldOf (r .sections)) ws (r .place))
-  step-on e = plan-goes left m c (heldOf sections) ws at (heldOf (r .sections)) (r .place) (rw (eq-eqb (r .number) 0 e) at (judged .reads))
+  pub step-on : r .finding ≡ Sound → endOf (planIn (suc left) m c (sectionsIn sections) ws at) ≡ endOf (planIn left m c (sectionsIn (r .sections)) ws (at + stepSize))
+  step-on e = plan-goes left m c (sectionsIn sections) ws at (sectionsIn (r .sections)) (at + stepSize) (sym (rw e at (judged .reads)))
 
-  pub step-off : (r .number ≡ 0 → ⊥) → endOf (planIn (suc left) m c (heldOf sections) ws at) ≡ bad (r .number) (r .place)
-  step-off n = plan-stops left m c (heldOf sections) ws at (r .number) (r .place) (rw (ne-eqb (r .number) 0 n) at (judged .reads))
+  pub step-off : (r .finding ≡ Sound → ⊥) → (end : ℕ) → endOf (planIn (suc left) m c (sectionsIn sections) ws at) ≡ stoppedBy (r .finding) (got tt end)
+  step-off n end =
+      let q = refusal (r .finding) n in
+      rw (q .said) (plan-stops left m c (sectionsIn sections) ws at (q .number) (q .place) (sym (rw (q .said) at (judged .reads))))
 
--- A walk that is refused.
-pub walk-refused : (n m : ℕ) (ws : List ℕ) (r : Walked) → (r .number ≡ 0 → ⊥) → r .number ≤ NEST → endOf (tasksIn n m ws 2) ≡ bad (r .number) (r .place) → WalkJudged n m ws r
-walk-refused n m ws r z few e = record {
-  sound = λ (q : r .number ≡ 0). absurd (z q);
-  refused = λ (q : r .number ≡ 0 → ⊥). e;
-  few = few;
-  starts = λ (q : r .number ≡ 0). absurd (z q);
-}
+-- A task that is refused ends the table with that refusal.
+pub refused-task : (left m : ℕ) (ws : List ℕ) (at end : ℕ) (found : Finding) → (found ≡ Sound → ⊥) → endOf (taskIn m ws at) ≡ stoppedBy found (got tt end) →
+    endOf (tasksIn (suc left) m ws at) ≡ stoppedBy found (got tt end)
+refused-task left m ws at end found n e =
+    let r = refusal found n in
+    rw (r .said) (tasks-stops left m ws at (r .number) (r .place) (rw (r .said) at e))

@@ -7,15 +7,15 @@ use native.Mathlib.Numerals.{add-one}
 use native.Mathlib.Omega.{arith}
 use lib.ListN.{length, getD, set, take, drop, replicate, length-set, take-append-drop}
 use lib.Seq.{take-suc-set, drop-set-lt, drop-cons}
-use Rattle.table.specs.Limits.{mostTasks}
+use Rattle.table.specs.Limits.{mostTasks, atTasks}
 use Rattle.table.specs.Map.{behind, startsFrom, padded}
 
 pub record Marked (n : ℕ) (ws : List ℕ) (i at : ℕ) (starts : List ℕ) : Type 0 where
   pub long : length starts ≡ mostTasks
-  pub past : take i starts ++ padded (mostTasks - i) (startsFrom (n - i) ws at) ≡ padded mostTasks (startsFrom n ws 2)
+  pub past : take i starts ++ padded (mostTasks - i) (startsFrom (n - i) ws at) ≡ padded mostTasks (startsFrom n ws atTasks)
   pub ahead : drop i starts ≡ padded (mostTasks - i) []
 
-pub marked-none : (n : ℕ) (ws : List ℕ) → Marked n ws 0 2 (replicate mostTasks 0)
+pub marked-none : (n : ℕ) (ws : List ℕ) → Marked n ws 0 atTasks (replicate mostTasks 0)
 unfolding padded
 marked-none n ws =
     let e : n - 0 ≡ n = omega arith in
@@ -27,7 +27,7 @@ marked-more n ws i at starts h k m =
     let l : i < length starts = omega (arith, m .long) in
     let e : mostTasks - i ≡ suc (mostTasks - suc i) = omega arith in
     let f : n - i ≡ suc (n - suc i) = omega arith in
-    let p : take i starts ++ (at ∷ padded (mostTasks - suc i) (startsFrom (n - suc i) ws (behind ws at))) ≡ padded mostTasks (startsFrom n ws 2) = rw (e, f) at (m .past) in
+    let p : take i starts ++ (at ∷ padded (mostTasks - suc i) (startsFrom (n - suc i) ws (behind ws at))) ≡ padded mostTasks (startsFrom n ws atTasks) = rw (e, f) at (m .past) in
     let q : getD starts i 0 ∷ drop (suc i) starts ≡ 0 ∷ padded (mostTasks - suc i) [] = sym (drop-cons starts i 0 l) ∙ rw e at (m .ahead) in
     let t : drop (suc i) starts ≡ padded (mostTasks - suc i) [] = cc in
     rw add-one record {
@@ -36,9 +36,9 @@ marked-more n ws i at starts h k m =
       ahead = drop-set-lt (suc i) starts i at (omega arith) ∙ t;
     }
 
-pub marked-all : (n : ℕ) (ws : List ℕ) (i at : ℕ) (starts : List ℕ) → i ≡ n → Marked n ws i at starts → starts ≡ padded mostTasks (startsFrom n ws 2)
+pub marked-all : (n : ℕ) (ws : List ℕ) (i at : ℕ) (starts : List ℕ) → i ≡ n → Marked n ws i at starts → starts ≡ padded mostTasks (startsFrom n ws atTasks)
 unfolding startsFrom
 marked-all n ws i at starts e m =
     let f : n - i ≡ 0 = omega arith in
-    let p : take i starts ++ padded (mostTasks - i) [] ≡ padded mostTasks (startsFrom n ws 2) = rw f at (m .past) in
+    let p : take i starts ++ padded (mostTasks - i) [] ≡ padded mostTasks (startsFrom n ws atTasks) = rw f at (m .past) in
     sym (take-append-drop i starts) ∙ (rw (m .ahead) p)

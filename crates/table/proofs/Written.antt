@@ -9,14 +9,15 @@ use native.Mathlib.Numerals.{add-one, add-two, add-three}
 use native.Mathlib.Omega.{arith}
 use lib.ListN.{length, getD, drop}
 use borrow.Author.Tests.{lt-ltb, le-ltb, le-leb, lt-leb}
-use Rattle.table.specs.Limits.{mostTicks, mostSteps, mostHeld}
+use Rattle.table.specs.Limits.{mostTicks, mostSteps, mostHeld, stepSize, atResource, atLength}
 use Rattle.table.specs.Table.{Step, lock, unlock, Task, noTask}
 use Rattle.table.specs.Held.{Section, heldAfter}
-use Rattle.table.specs.Check.{RANGE, COUNT, Read, got, wordIn, brokenLock, stepIn, planIn, taskIn, tasksIn}
+use Rattle.table.specs.Check.{Read, got, _andThen_, wordIn, brokenLock, stepIn, planIn, taskIn, tasksIn}
+use Rattle.numbers.specs.Answers.{RANGE, COUNT}
 use Rattle.table.specs.Valid.{Allowed, Nested, ends, locks, unlocks, ValidTask}
 use Rattle.table.specs.Words.{planWords, taskWords, tasksWords}
-use Rattle.table.proofs.Tests.{never}
-use Rattle.table.proofs.Passed.{after}
+use Rattle.numbers.proofs.Tests.{never}
+use Rattle.table.proofs.Passed.{afterPlan, afterS, afterC, afterD, afterT}
 
 -- A read got `a`, and `rest` lies behind it.
 pub record Written {A : Type 0} (read : Read A) (a : A) (ws rest : List ℕ) : Type 0 where
@@ -25,18 +26,18 @@ pub record Written {A : Type 0} (read : Read A) (a : A) (ws rest : List ℕ) : T
   pub left : drop end ws ≡ rest
 
 -- One after another.
-then-written : {A B : Type 0} {read : Read A} (then : A → ℕ → Read B) {a : A} {b : B} {ws mid rest : List ℕ} → Written read a ws mid →
-    ((next : ℕ) → drop next ws ≡ mid → Written (then a next) b ws rest) → Written (after read then) b ws rest
+pub then-written : {A B : Type 0} {read : Read A} (then : A → ℕ → Read B) {a : A} {b : B} {ws mid rest : List ℕ} → Written read a ws mid →
+    ((next : ℕ) → drop next ws ≡ mid → Written (then a next) b ws rest) → Written (read andThen then) b ws rest
 then-written then one two =
     let more = two (one .end) (one .left) in
     record {
       end = more .end;
-      reads = ap (λ r. after r then) (one .reads) ∙ more .reads;
+      reads = ap (λ r. r andThen then) (one .reads) ∙ more .reads;
       left = more .left;
     }
 
 -- Nothing more to read.
-done : {A : Type 0} (a : A) (ws : List ℕ) {rest : List ℕ} (end : ℕ) → drop end ws ≡ rest → Written (got a end) a ws rest
+pub done : {A : Type 0} (a : A) (ws : List ℕ) {rest : List ℕ} (end : ℕ) → drop end ws ≡ rest → Written (got a end) a ws rest
 done a ws end e = record { end = end; reads = refl; left = e }
 
 -- ---- one word
@@ -64,11 +65,11 @@ word-written number least most ws at {x} {rest} e low high =
 -- ---- one step
 
 record Three (ws : List ℕ) (at kind r l : ℕ) (rest : List ℕ) : Type 0 where
-  there : at + 3 ≤ length ws
+  there : at + stepSize ≤ length ws
   is-kind : getD ws at 0 ≡ kind
-  is-r : getD ws (at + 1) 0 ≡ r
-  is-l : getD ws (at + 2) 0 ≡ l
-  left : drop (at + 3) ws ≡ rest
+  is-r : getD ws (at + atResource) 0 ≡ r
+  is-l : getD ws (at + atLength) 0 ≡ l
+  left : drop (at + stepSize) ws ≡ rest
 
 three : (ws : List ℕ) (at : ℕ) {kind r l : ℕ} {rest : List ℕ} → drop at ws ≡ kind ∷ r ∷ l ∷ rest → Three ws at kind r l rest
 three ws at e =
@@ -96,9 +97,9 @@ unfolding stepIn
 lock-written m c r l held ws at a e =
     let t = three ws at e in
     record {
-      end = at + 3;
+      end = at + stepSize;
       reads = rw (
-        le-leb (at + 3) (length ws) (t .there),
+        le-leb (at + stepSize) (length ws) (t .there),
         t .is-kind,
         t .is-r,
         t .is-l,
@@ -116,8 +117,8 @@ unfolding stepIn
 unlock-written m c s held ws at e =
     let t = three ws at e in
     record {
-      end = at + 3;
-      reads = rw (le-leb (at + 3) (length ws) (t .there), t .is-kind, t .is-r, t .is-l);
+      end = at + stepSize;
+      reads = rw (le-leb (at + stepSize) (length ws) (t .there), t .is-kind, t .is-r, t .is-l);
       left = t .left;
     }
 
@@ -130,7 +131,7 @@ plan-then : (m c left : ℕ) (held : List Section) (ws : List ℕ) (at : ℕ) (s
 unfolding planIn
 plan-then m c left held ws at step steps one rest =
     then-written
-    (λ (s : Step) (next : ℕ). after (planIn left m c (heldAfter s held) ws next) (λ (ss : List Step) (end : ℕ). got (s ∷ ss) end))
+    (λ (s : Step) (next : ℕ). _andThen_ (planIn left m c (heldAfter s held) ws next) (λ (ss : List Step) (end : ℕ). got (s ∷ ss) end))
     one
     (λ next e. then-written (λ (ss : List Step) (end : ℕ). got (step ∷ ss) end) (rest next e) (λ end q. done (step ∷ steps) ws end q))
 
@@ -149,27 +150,12 @@ pub task-written : (m : ℕ) (task : Task) (ws : List ℕ) (at : ℕ) {rest : Li
     Written (taskIn m ws at) task ws rest
 unfolding taskIn taskWords
 task-written m task ws at v e =
-    then-written afterT (word-written RANGE 1 mostTicks ws at e (v .T-least) (v .T-most))
-    (λ at₁ e₁. then-written (afterD (task .T)) (word-written RANGE 1 mostTicks ws at₁ e₁ (v .D-least) (v .D-most))
-    (λ at₂ e₂. then-written (afterC (task .T) (task .D)) (word-written RANGE 1 mostTicks ws at₂ e₂ (v .C-least) (v .C-most))
-    (λ at₃ e₃. then-written (afterS (task .T) (task .D) (task .C)) (word-written COUNT 0 mostSteps ws at₃ e₃ zero-le (v .steps))
+    then-written (afterT m ws) (word-written RANGE 1 mostTicks ws at e (v .T-least) (v .T-most))
+    (λ at₁ e₁. then-written (afterD m ws (task .T)) (word-written RANGE 1 mostTicks ws at₁ e₁ (v .D-least) (v .D-most))
+    (λ at₂ e₂. then-written (afterC m ws (task .T) (task .D)) (word-written RANGE 1 mostTicks ws at₂ e₂ (v .C-least) (v .C-most))
+    (λ at₃ e₃. then-written (afterS m ws (task .T) (task .D) (task .C)) (word-written COUNT 0 mostSteps ws at₃ e₃ zero-le (v .steps))
     (λ at₄ e₄. then-written (afterPlan (task .T) (task .D) (task .C)) (plan-written (v .nested) ws at₄ e₄)
     (λ end e₅. done task ws end e₅)))))
-  where
-    afterPlan : ℕ → ℕ → ℕ → List Step → ℕ → Read Task
-    afterPlan t d c plan next = got (record { T = t; D = d; C = c; plan = plan }) next
-
-    afterS : ℕ → ℕ → ℕ → ℕ → ℕ → Read Task
-    afterS t d c s at₄ = after (planIn s m c [] ws at₄) (afterPlan t d c)
-
-    afterC : ℕ → ℕ → ℕ → ℕ → Read Task
-    afterC t d c at₃ = after (wordIn COUNT 0 mostSteps ws at₃) (afterS t d c)
-
-    afterD : ℕ → ℕ → ℕ → Read Task
-    afterD t d at₂ = after (wordIn RANGE 1 mostTicks ws at₂) (afterC t d)
-
-    afterT : ℕ → ℕ → Read Task
-    afterT t at₁ = after (wordIn RANGE 1 mostTicks ws at₁) (afterD t)
 
 -- ---- the tasks
 
@@ -180,7 +166,7 @@ unfolding tasksIn tasksWords
 tasks-written m [] ws at each e = done [] ws at e
 tasks-written m (task ∷ tasks) ws at {rest} each e =
     then-written
-    (λ (t : Task) (next : ℕ). after (tasksIn (length tasks) m ws next) (λ (ts : List Task) (end : ℕ). got (t ∷ ts) end))
+    (λ (t : Task) (next : ℕ). _andThen_ (tasksIn (length tasks) m ws next) (λ (ts : List Task) (end : ℕ). got (t ∷ ts) end))
     (task-written m task ws at (each zero (suc-le-suc zero-le)) (e ∙ append-assoc (taskWords task) (tasksWords tasks) rest))
     (λ next q. then-written (λ (ts : List Task) (end : ℕ). got (task ∷ ts) end)
     (tasks-written m tasks ws next (λ (i : ℕ) (h : i < length tasks). each (suc i) (suc-le-suc h)) q) (λ end x. done (task ∷ tasks) ws end x))

@@ -1,9 +1,9 @@
 -- Document 01's tables: their limits, what a list of words says, what a plan holds, who uses a resource, and its floor.
 pub mod Limits
-pub mod Any
 pub mod Table
 pub mod Check
 pub mod Words
+pub mod Broken
 pub mod Held
 pub mod Valid
 pub mod Floor

@@ -1,4 +1,4 @@
--- Document 01's limits, "The words of a table": every number of the table there stands here and nowhere else.
+-- Document 01's limits, "The words of a table": every most of the table there stands here and nowhere else, and so do the places of the words.
 -- Assumes nothing.
 use Prim.Native.Nat.{ℕ, _+_, _*_, _^_}
 
@@ -22,9 +22,40 @@ mostSteps = 16
 abbrev pub mostHeld : ℕ
 mostHeld = 4
 
--- The longest list that passes the check: two words, and for each task four and three a step.
+-- "Word 0: number of tasks n. Word 1: number of resources m. Then for each task": where the first task starts.
+abbrev pub atTasks : ℕ
+atTasks = 2
+
+-- "for each task in order T, D, C, the number of steps s, and three words a step": how far behind a task's start each of its words stands, and
+-- its plan.
+abbrev pub atPeriod : ℕ
+atPeriod = 0
+
+abbrev pub atDeadline : ℕ
+atDeadline = 1
+
+abbrev pub atCost : ℕ
+atCost = 2
+
+abbrev pub atSteps : ℕ
+atSteps = 3
+
+abbrev pub atPlan : ℕ
+atPlan = 4
+
+-- "three words a step: kind, resource, length": how many, and how far behind the first the others stand.
+abbrev pub stepSize : ℕ
+stepSize = 3
+
+abbrev pub atResource : ℕ
+atResource = 1
+
+abbrev pub atLength : ℕ
+atLength = 2
+
+-- The longest list that passes the check: the first words, and for each task its own and those of the longest plan.
 abbrev pub room : ℕ
-room = 2 + mostTasks * (4 + mostSteps * 3)
+room = atTasks + mostTasks * (atPlan + mostSteps * stepSize)
 
 -- "clock | 0 | 2^40 - 1": the first time that is none.
 abbrev pub endOfTime : ℕ
@@ -34,9 +65,9 @@ endOfTime = 2 ^ 40
 abbrev pub mostStored : ℕ
 mostStored = endOfTime + mostTicks
 
--- "its count of accepted releases is above 2^44"
+-- "its count of accepted releases is above 2^44": sixteen times 2^40, one for each task at each time.
 abbrev pub mostReleases : ℕ
-mostReleases = 2 ^ 44
+mostReleases = mostTasks * endOfTime
 
 -- "23 LONG if P is above 1,000,000"
 abbrev pub mostMultiple : ℕ

@@ -4,26 +4,26 @@
 use Prim.Native.Nat.{ℕ, zero, suc, _+_, _*_, min}
 use mathlib.Core.List.{List, [], _∷_}
 use lib.ListN.{getD}
-use Rattle.table.specs.Limits.{mostTasks, mostSteps}
+use Rattle.table.specs.Limits.{mostTasks, mostSteps, atTasks, atPeriod, atDeadline, atCost, atSteps, atPlan, stepSize, atResource, atLength}
 use Rattle.table.specs.Table.{Step, lock, unlock, Task, Table, tasksOf}
 use Rattle.table.specs.Check.{stepSaid, Checked, sound, refused, checkOf}
 use Rattle.table.specs.declared.Map.{Map}
 use Rattle.table.specs.declared.Next.{Next}
 use Rattle.table.specs.declared.Next.the-variants.{Lock, Unlock, Finish}
 
--- `left` steps as they lie, three words a step.
+-- `left` steps as they lie, "three words a step".
 unfoldable pub stepsAt : ℕ → List ℕ → ℕ → List Step
 stepsAt zero ws at = []
 stepsAt (suc left) ws at =
-    stepSaid (getD ws at 0) (getD ws (at + 1) 0) (getD ws (at + 2) 0) ∷ stepsAt left ws (at + 3)
+    stepSaid (getD ws at 0) (getD ws (at + atResource) 0) (getD ws (at + atLength) 0) ∷ stepsAt left ws (at + stepSize)
 
--- The task that starts at a place, as it lies; no plan is read past its sixteenth step.
+-- The task that starts at a place, as it lies; no plan is read past the most steps that it may have.
 unfoldable pub taskAt : List ℕ → ℕ → Task
 taskAt ws at = record {
-  T = getD ws at 0;
-  D = getD ws (at + 1) 0;
-  C = getD ws (at + 2) 0;
-  plan = stepsAt (min (getD ws (at + 3) 0) mostSteps) ws (at + 4);
+  T = getD ws (at + atPeriod) 0;
+  D = getD ws (at + atDeadline) 0;
+  C = getD ws (at + atCost) 0;
+  plan = stepsAt (min (getD ws (at + atSteps) 0) mostSteps) ws (at + atPlan);
 }
 
 -- The tasks that start at the places from the i-th on.
@@ -40,27 +40,31 @@ tableAt ws map = record {
 
 -- The place behind the task that starts at a place.
 abbrev pub behind : List ℕ → ℕ → ℕ
-behind ws at = at + 4 + 3 * getD ws (at + 3) 0
+behind ws at = at + atPlan + stepSize * getD ws (at + atSteps) 0
 
 -- Where `left` tasks start, the first at a place.
 unfoldable pub startsFrom : ℕ → List ℕ → ℕ → List ℕ
 startsFrom zero ws at = []
 startsFrom (suc left) ws at = at ∷ startsFrom left ws (behind ws at)
 
--- The first n of a list, and zeros up to sixteen.
+-- The first k of a list, and zeros where it has fewer.
 unfoldable pub padded : ℕ → List ℕ → List ℕ
 padded zero xs = []
 padded (suc k) [] = 0 ∷ padded k []
 padded (suc k) (x ∷ xs) = x ∷ padded k xs
+
+-- The map of a list that is refused.
+abbrev pub noMap : Map
+noMap = record { tasks = 0; resources = 0; starts = padded mostTasks [] }
 
 -- The map of a list of words: of a sound one where each task starts, of any other zeros.
 abbrev pub mapFrom : Checked → List ℕ → Map
 mapFrom (sound t) ws = record {
   tasks = tasksOf t;
   resources = t .resources;
-  starts = padded mostTasks (startsFrom (tasksOf t) ws 2);
+  starts = padded mostTasks (startsFrom (tasksOf t) ws atTasks);
 }
-mapFrom (refused number place) ws = record { tasks = 0; resources = 0; starts = padded mostTasks [] }
+mapFrom (refused number place) ws = noMap
 
 unfoldable pub mapOf : List ℕ → Map
 mapOf ws = mapFrom (checkOf ws) ws

@@ -1,57 +1,62 @@
--- What the functions of the check answer one another, as numbers and places: number 0 stands for "nothing refused so far". The promises of
--- `survey` and `check` speak of `checkOf` alone; these definitions serve the functions below them. Assumes nothing.
+-- What the functions of the check answer one another: a finding, `Sound` while nothing is refused, and what was read. The promises of
+-- `survey` and `check` speak of `checkOf` and `mapOf` alone; these definitions serve the functions below them. Assumes nothing.
 use Prim.Native.Nat.{ℕ, zero, suc, _+_, _≤_, _<_}
 use mathlib.Core.Path.{_≡_}
-use mathlib.Core.Bool.{false, cond}
+use mathlib.Core.Bool.{false, cond, _&&_}
 use mathlib.Core.List.{List, [], _∷_}
-use lib.Dec.{eqb}
+use lib.Dec.{ltb, leb}
 use lib.ListN.{length, getD, drop}
 use Rattle.sets.specs.Member.{width}
-use Rattle.table.specs.Limits.{mostTasks, mostTicks, mostSteps, mostHeld}
-use Rattle.table.specs.Check.{COUNT, RANGE, NEST, Read, got, bad, wordIn, stepIn, tasksIn}
+use Rattle.table.specs.Limits.{mostTasks, mostHeld, atTasks, atSteps, atPlan, stepSize}
+use Rattle.table.specs.Check.{Read, got, bad, stepIn, planIn, taskIn, tasksIn}
 use Rattle.table.specs.Table.{Step}
 use Rattle.table.specs.Held.{Section, heldAfter, holds, heldSet}
-use Rattle.table.specs.Map.{startsFrom, padded}
-use Rattle.table.specs.Said.{Said, passes, says}
-use Rattle.table.specs.declared.Map.{Map}
-use Rattle.table.specs.declared.check.Word.{Word}
-use Rattle.table.specs.declared.check.Head.{Head}
-use Rattle.table.specs.declared.check.Sections.{Sections}
-use Rattle.table.specs.declared.check.Stepped.{Stepped}
-use Rattle.table.specs.declared.check.Walked.{Walked}
+use Rattle.table.specs.Map.{startsFrom, padded, noMap}
+use Rattle.table.specs.Said.{CheckReply, passes, says, saidOf}
+use Rattle.table.specs.declared.Finding.{Finding}
+use Rattle.table.specs.declared.Finding.the-variants.{Sound, Short}
+use Rattle.table.specs.declared.Survey.{Survey}
+use Rattle.table.specs.declared.words.Word.{Word}
+use Rattle.table.specs.declared.words.Head.{Head}
+use Rattle.table.specs.declared.sections.Sections.{Sections}
+use Rattle.table.specs.declared.steps.Stepped.{Stepped}
+use Rattle.table.specs.declared.walk.Walked.{Walked}
 
 -- Where a reading ends, whatever it reads: the place behind it, or a refusal's number and place.
 abbrev pub endOf : {A : Type 0} → Read A → Read (Unit {0})
 endOf (got x place) = got tt place
 endOf (bad number place) = bad number place
 
--- What the two numbers that the code keeps say in the end.
-abbrev pub numberSaid : ℕ → ℕ → Said
-numberSaid number place = cond (eqb number 0) passes (says number place)
+-- A reading that goes on only where nothing is refused.
+abbrev pub unlessSaid : {A : Type 0} → CheckReply → Read A → Read A
+unlessSaid passes rest = rest
+unlessSaid (says number place) rest = bad number place
 
--- The map of a list that is refused.
-abbrev pub noMap : Map
-noMap = record { tasks = 0; resources = 0; starts = padded mostTasks [] }
+abbrev pub stoppedBy : {A : Type 0} → Finding → Read A → Read A
+stoppedBy finding rest = unlessSaid (saidOf finding) rest
 
--- One word.
-abbrev pub wordOf : Read ℕ → Word
-wordOf (got value place) = record { number = 0; place = place; value = value }
-wordOf (bad number place) = record { number = number; place = place; value = 0 }
+-- A refused list's survey.
+abbrev pub refusedOf : Finding → Survey
+refusedOf finding = record { finding = finding; map = noMap }
+
+-- One word: `outside` is its refusal where it is outside its limits.
+abbrev pub wordOf : Finding → ℕ → ℕ → List ℕ → ℕ → Word
+wordOf outside least most ws at =
+    cond (ltb at (length ws))
+    (cond (leb least (getD ws at 0) && leb (getD ws at 0) most)
+    (record { finding = Sound; value = getD ws at 0 })
+    (record { finding = outside; value = 0 }))
+    (record { finding = Short (length ws); value = 0 })
 
 -- A task's T, D, C and s.
-abbrev pub stoppedAt : Word → Head
-stoppedAt w = record { number = w .number; place = w .place; cost = 0; steps = 0 }
+abbrev pub stoppedOf : Finding → Head
+stoppedOf finding = record { finding = finding; cost = 0; steps = 0 }
 
-abbrev pub begun : Word → Word → Head
-begun c s = record { number = s .number; place = s .place; cost = c .value; steps = s .value }
-
-unfoldable pub headOf : List ℕ → ℕ → Head
-headOf ws at =
-    let t = wordOf (wordIn RANGE 1 mostTicks ws at) in
-    let d = wordOf (wordIn RANGE 1 mostTicks ws (t .place)) in
-    let c = wordOf (wordIn RANGE 1 mostTicks ws (d .place)) in
-    let s = wordOf (wordIn COUNT 0 mostSteps ws (c .place)) in
-    cond (eqb (t .number) 0) (cond (eqb (d .number) 0) (cond (eqb (c .number) 0) (begun c s) (stoppedAt c)) (stoppedAt d)) (stoppedAt t)
+-- Where they are sound, the task goes on with its plan.
+pub record HeadJudged (ws : List ℕ) (at : ℕ) (r : Head) : Type 0 where
+  pub reads : (m : ℕ) → endOf (taskIn m ws at) ≡ stoppedBy (r .finding) (endOf (planIn (r .steps) m (r .cost) [] ws (at + atPlan)))
+  pub room : r .finding ≡ Sound → at + atPlan ≤ length ws
+  pub count : r .finding ≡ Sound → r .steps ≡ getD ws (at + atSteps) 0
 
 -- The sections of the first `depth` places of two arrays, which have the innermost first.
 unfoldable pub sectionsOf : ℕ → List ℕ → List ℕ → List Section
@@ -59,8 +64,8 @@ sectionsOf zero resources lengths = []
 sectionsOf (suc depth) resources lengths =
     record { resource = getD resources 0 0; length = getD lengths 0 0 } ∷ sectionsOf depth (drop 1 resources) (drop 1 lengths)
 
-abbrev pub heldOf : Sections → List Section
-heldOf sections = sectionsOf (sections .depth) (sections .resources) (sections .lengths)
+abbrev pub sectionsIn : Sections → List Section
+sectionsIn sections = sectionsOf (sections .depth) (sections .resources) (sections .lengths)
 
 -- No resource is held twice, and each has its bit.
 abbrev pub Apart : List Section → Type 0
@@ -72,12 +77,12 @@ pub record Fair (sections : Sections) : Type 0 where
   pub depth : sections .depth ≤ mostHeld
   pub resources : length (sections .resources) ≡ mostHeld
   pub lengths : length (sections .lengths) ≡ mostHeld
-  pub set : sections .set ≡ heldSet (heldOf sections)
-  pub apart : Apart (heldOf sections)
+  pub set : sections .set ≡ heldSet (sectionsIn sections)
+  pub apart : Apart (sectionsIn sections)
 
 -- What is held after a change.
 pub record Leaves (held : List Section) (sections : Sections) : Type 0 where
-  pub held-is : heldOf sections ≡ held
+  pub held-is : sectionsIn sections ≡ held
   pub fair : Fair sections
 
 -- What is held behind a step.
@@ -85,21 +90,13 @@ abbrev pub heldBehind : List Section → Read Step → Read (List Section)
 heldBehind held (got step next) = got (heldAfter step held) next
 heldBehind held (bad number place) = bad number place
 
--- The same from what the code keeps.
-abbrev pub steppedOf : Stepped → Read (List Section)
-steppedOf r = cond (eqb (r .number) 0) (got (heldOf (r .sections)) (r .place)) (bad (r .number) (r .place))
-
--- One step: what it leaves held and where, or its refusal.
+-- One step: what it leaves held, or its refusal.
 pub record StepJudged (m c : ℕ) (sections : Sections) (ws : List ℕ) (at : ℕ) (r : Stepped) : Type 0 where
-  pub reads : steppedOf r ≡ heldBehind (heldOf sections) (stepIn m c (heldOf sections) ws at)
-  pub few : r .number ≤ NEST
-  pub place : r .number ≡ 0 → r .place ≡ at + 3
-  pub room : r .number ≡ 0 → r .place ≤ length ws
+  pub reads : heldBehind (sectionsIn sections) (stepIn m c (sectionsIn sections) ws at) ≡ stoppedBy (r .finding) (got (sectionsIn (r .sections)) (at + stepSize))
+  pub room : r .finding ≡ Sound → at + stepSize ≤ length ws
   pub fair : Fair (r .sections)
 
 -- All tasks: where they end and start, or the refusal.
 pub record WalkJudged (n m : ℕ) (ws : List ℕ) (r : Walked) : Type 0 where
-  pub sound : r .number ≡ 0 → endOf (tasksIn n m ws 2) ≡ got tt (r .end)
-  pub refused : (r .number ≡ 0 → ⊥) → endOf (tasksIn n m ws 2) ≡ bad (r .number) (r .place)
-  pub few : r .number ≤ NEST
-  pub starts : r .number ≡ 0 → r .starts ≡ padded mostTasks (startsFrom n ws 2)
+  pub reads : endOf (tasksIn n m ws atTasks) ≡ stoppedBy (r .finding) (got tt (r .end))
+  pub starts : r .finding ≡ Sound → r .starts ≡ padded mostTasks (startsFrom n ws atTasks)

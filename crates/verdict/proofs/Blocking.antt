@@ -16,10 +16,10 @@ use Rattle.table.specs.Held.{Section}
 use Rattle.table.specs.Floor.{stepLocks, locks, floorOf}
 use Rattle.table.specs.Valid.{Nested, ends, ValidTask}
 use Rattle.table.specs.Valid as valid
-use Rattle.table.proofs.Tests.{or-left, or-right}
+use Rattle.numbers.proofs.Tests.{or-left, or-right}
 use Rattle.verdict.specs.Blocking.{blockingStep, blockingPlan, blockingTasks, blocking}
 use Rattle.verdict.specs.Verdict.{largest}
-use Rattle.verdict.proofs.Each.{Each}
+use Rattle.numbers.specs.Each.{Each}
 use Rattle.verdict.proofs.Demand.{largest-cons}
 
 -- ---- the definitions' cases

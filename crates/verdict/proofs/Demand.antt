@@ -17,7 +17,8 @@ use Rattle.table.specs.Valid.{ValidTask}
 use Rattle.verdict.specs.Demand.{demandOf, demandSum, demand}
 use Rattle.verdict.specs.Multiple.{multiple}
 use Rattle.verdict.specs.Verdict.{loadOf, load, largest}
-use Rattle.verdict.proofs.Each.{Each, Periods}
+use Rattle.numbers.specs.Each.{Each}
+use Rattle.verdict.proofs.Each.{Periods}
 use Rattle.verdict.proofs.Multiple.{Multiples, multiple-multiples}
 
 pub div-mono : (a b k : ℕ) → a ≤ b → a / k ≤ b / k

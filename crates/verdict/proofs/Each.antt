@@ -1,16 +1,13 @@
--- What holds of each task of a list: a rule as a type along the list, so that a law about tasks goes by the list and not by an index.
+-- The laws of what holds of each task of a list (`Each`), so that a law about tasks goes by the list and not by an index.
 -- Assumes nothing.
 use Prim.Native.Nat.{ℕ, zero, suc, _≤_, _<_, suc-le-suc}
 use mathlib.Core.List.{List, [], _∷_}
 use native.Mathlib.Nat.{le-of-suc-le-suc, not-suc-le-zero}
 use native.Mathlib.Omega.{arith}
 use lib.ListN.{length, getD}
+use Rattle.numbers.specs.Each.{Each}
 use Rattle.table.specs.Table.{Task, Table, noTask}
 use Rattle.table.specs.Valid.{ValidTask, Valid}
-
-abbrev pub Each : (Task → Type 0) → List Task → Type 0
-Each P [] = Unit {0}
-Each P (task ∷ tasks) = P task × Each P tasks
 
 pub each-map : (P Q : Task → Type 0) (tasks : List Task) → ((task : Task) → P task → Q task) → Each P tasks → Each Q tasks
 each-map P Q [] f h = tt

@@ -20,26 +20,8 @@ use Rattle.table.proofs.Laws.{checked-valid}
 use Rattle.verdict.specs.Demand.{demand}
 use Rattle.verdict.specs.Blocking.{blocking}
 use Rattle.verdict.specs.Multiple.{multiple}
-use Rattle.verdict.specs.Verdict.{
-  Said,
-  says,
-  FITS,
-  LATE,
-  HEAVY,
-  LONG,
-  load,
-  largest,
-  Breaks,
-  firstLate,
-  judge,
-  verdictOf,
-  Judged,
-  is-refused,
-  is-long,
-  is-heavy,
-  is-late,
-  is-fits,
-}
+use Rattle.verdict.specs.Verdict.{VerdictReply, says, load, largest, Breaks, firstLate, judge, verdictOf, Judged, is-refused, is-long, is-heavy, is-late, is-fits}
+use Rattle.numbers.specs.Answers.{FITS, LATE, HEAVY, LONG}
 use Rattle.verdict.proofs.Each.{valid-periods}
 use Rattle.verdict.proofs.Periodic.{Keeps, keeps-always}
 
@@ -58,7 +40,7 @@ unfolding firstLate
 first-next left t table k = rw (le-ltb t (demand table t + blocking table t) k, firstLate)
 
 -- what a search of `left` numbers from t on finds
-pub data Search (table : Table) (t left : ℕ) (said : Said) : Type 0 where
+pub data Search (table : Table) (t left : ℕ) (said : VerdictReply) : Type 0 where
   none : said ≡ says FITS 0 → ((s : ℕ) → t ≤ s → s < t + left → Keeps table s) → Search table t left said
   some : (s : ℕ) → said ≡ says LATE s → Breaks table s → s < t + left → ((u : ℕ) → t ≤ u → u < s → Keeps table u) → Search table t left said
 
@@ -84,7 +66,7 @@ search-finds (suc left) t table = go (ltb t (demand table t + blocking table t))
 -- ---- the cases of a verdict
 
 -- the two tests, and the answer that they pick
-abbrev picked : Table → Bool → Bool → Said
+abbrev picked : Table → Bool → Bool → VerdictReply
 picked table long heavy =
     elim long [ true ↦ says LONG 0 | false ↦ elim heavy [ true ↦ says HEAVY 0 | false ↦ firstLate (suc (multiple table + largest (table .tasks))) 0 table ] ]
 
@@ -114,7 +96,7 @@ verdict-refused ws number place e = rw e
 -- ---- a table within the limits that is neither LONG nor HEAVY: the search answers for every t
 
 -- what the search answers of it
-pub data Answer (table : Table) (said : Said) : Type 0 where
+pub data Answer (table : Table) (said : VerdictReply) : Type 0 where
   fits : said ≡ says FITS 0 → ((t : ℕ) → Keeps table t) → Answer table said
   late : (t : ℕ) → said ≡ says LATE t → Breaks table t → ((s : ℕ) → s < t → Keeps table s) → Answer table said
 
@@ -163,7 +145,7 @@ verdict-judged ws = go (checkOf ws) refl
 
 -- ---- and nothing else is
 
-pub judged-is : (ws : List ℕ) (said : Said) → Judged ws said → said ≡ verdictOf ws
+pub judged-is : (ws : List ℕ) (said : VerdictReply) → Judged ws said → said ≡ verdictOf ws
 judged-is ws said (is-refused number place e q) = q ∙ sym (verdict-refused ws number place e)
 judged-is ws said (is-long table e l q) = q ∙ sym (verdict-sound ws table e ∙ judge-long table l)
 judged-is ws said (is-heavy table e l h q) = q ∙ sym (verdict-sound ws table e ∙ judge-heavy table l h)
@@ -187,5 +169,5 @@ judged-is ws said (is-fits table e l h f q) = q ∙ go (judge-answers table (che
     go (late t r b g) = absurd (not-le-of-lt b (f t))
 
 -- two answers that are both judged right are equal
-pub judged-unique : (ws : List ℕ) (a b : Said) → Judged ws a → Judged ws b → a ≡ b
+pub judged-unique : (ws : List ℕ) (a b : VerdictReply) → Judged ws a → Judged ws b → a ≡ b
 judged-unique ws a b p q = judged-is ws a p ∙ sym (judged-is ws b q)

@@ -18,16 +18,17 @@ use Rattle.table.specs.Check.{sound, checkOf}
 use Rattle.table.specs.Valid.{Valid}
 use Rattle.table.proofs.Laws.{checked-valid}
 use Rattle.verdict.specs.Multiple.{divisorIn, multipleOf, multiple}
-use Rattle.verdict.specs.Verdict.{Said, says, FITS, LATE, HEAVY, LONG, load, judge, verdictOf}
+use Rattle.verdict.specs.Verdict.{VerdictReply, says, load, judge, verdictOf}
+use Rattle.numbers.specs.Answers.{FITS, LATE, HEAVY, LONG}
 use Rattle.verdict.proofs.Each.{each-all, each-at, valid-periods}
 use Rattle.verdict.proofs.Multiple.{Multiples, multiple-least, multiple-multiples, multiple-divides, multiple-positive}
 use Rattle.verdict.proofs.Judged.{judge-long, judge-heavy, judge-answers, Answer, fits, late, verdict-sound}
 
-abbrev numberOf : Said → ℕ
+abbrev numberOf : VerdictReply → ℕ
 numberOf (says number value) = number
 
 -- an answer with another number isn't LONG
-other : (number value : ℕ) (said : Said) → number ≢ LONG → said ≡ says number value → said ≢ says LONG 0
+other : (number value : ℕ) (said : VerdictReply) → number ≢ LONG → said ≡ says number value → said ≢ says LONG 0
 other number value said n p q = n (ap numberOf (sym p ∙ q))
 
 -- all periods divide a number up to 1,000,000: not LONG

@@ -1,13 +1,14 @@
 -- What a caller learns from the promise of `judge::verdict`: its answer is judged right, and FITS means that h(t) + b(t) is at most t for every t
--- without end. (That no two different answers keep the promise is `verdict-pinned` of crate `promises`.)
+-- without end. (That no two different answers keep the promise is `verdict-pinned` of crate `pinned`.)
 -- Assumes nothing.
 use Prim.Native.Nat.{ℕ, _<_}
 use mathlib.Core.Path.{_≡_, sym, subst}
 use mathlib.Core.List.{List}
 use Rattle.table.specs.Table.{Table}
 use Rattle.table.specs.Check.{sound, checkOf}
-use Rattle.table.proofs.Tests.{never}
-use Rattle.verdict.specs.Verdict.{says, FITS, LATE, Breaks, verdictOf, Judged, is-refused, is-long, is-heavy, is-late, is-fits}
+use Rattle.numbers.proofs.Tests.{never}
+use Rattle.verdict.specs.Verdict.{says, Breaks, verdictOf, Judged, is-refused, is-long, is-heavy, is-late, is-fits}
+use Rattle.numbers.specs.Answers.{FITS, LATE}
 use Rattle.verdict.specs.Said.{verdictSaid}
 use Rattle.verdict.specs.declared.Verdict.{Verdict}
 use Rattle.verdict.proofs.Periodic.{Keeps}

@@ -10,8 +10,10 @@ use mathlib.Core.List.{List, [], _∷_}
 use native.Mathlib.Nat.{dvd-refl, dvd-trans, dvd-mul-left, dvd-mul-right, le-of-dvd, pos-of-dvd-of-pos, mul-pos, one-dvd, mul-dvd-mul-right, dvd-of-mul-dvd-mul-left, mul-div-cancel', mul-comm, mul-assoc, mul-zero}
 use native.Mathlib.Omega.{arith}
 use Rattle.table.specs.Table.{Task, Table}
-use Rattle.verdict.specs.Multiple.{divisorOf, multipleOf, multipleWith, multiple}
-use Rattle.verdict.proofs.Each.{Each, Periods}
+use Rattle.table.specs.Valid.{Valid}
+use Rattle.verdict.specs.Multiple.{divisorOf, multipleOf, multipleWith, multiple, LeastCommonMultiple}
+use Rattle.numbers.specs.Each.{Each}
+use Rattle.verdict.proofs.Each.{Periods, each-all, each-at, valid-periods}
 use Rattle.verdict.proofs.Divisor.{divisor-left, divisor-right, divisor-greatest}
 
 -- ---- of two numbers
@@ -120,3 +122,10 @@ multiple-divides table m h ms = with-least 1 m (table .tasks) (omega arith) h (o
 
 pub multiple-positive : (table : Table) → Periods (table .tasks) → zero < multiple table
 multiple-positive table h = with-pos 1 (table .tasks) (omega arith) h
+
+-- P is the least common multiple of the periods
+pub multiple-is-least : (table : Table) → Valid table → LeastCommonMultiple table (multiple table)
+multiple-is-least table v = record {
+  common = (multiple-positive table (valid-periods table v), each-at (λ (task : Task). task .T ∣ multiple table) (table .tasks) (multiple-multiples table));
+  least = λ m c. le-of-dvd (c .0) (multiple-divides table m (valid-periods table v) (each-all (λ (task : Task). task .T ∣ m) (table .tasks) (c .1)));
+}

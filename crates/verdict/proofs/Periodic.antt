@@ -9,11 +9,11 @@ use native.Mathlib.Omega.{arith}
 use lib.Dec.{leb}
 use borrow.Author.Tests.{leb-true, leb-false}
 use Rattle.table.specs.Table.{Table}
+use Rattle.verdict.proofs.Each.{Periods}
 use Rattle.verdict.specs.Demand.{demand}
 use Rattle.verdict.specs.Blocking.{blocking}
 use Rattle.verdict.specs.Multiple.{multiple}
 use Rattle.verdict.specs.Verdict.{load, largest}
-use Rattle.verdict.proofs.Each.{Periods}
 use Rattle.verdict.proofs.Multiple.{multiple-positive}
 use Rattle.verdict.proofs.Demand.{demand-repeats}
 use Rattle.verdict.proofs.Blocking.{blocking-none}

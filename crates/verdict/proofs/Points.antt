@@ -18,7 +18,8 @@ use Rattle.table.proofs.Floors.{floor-user}
 use Rattle.verdict.specs.Demand.{demandOf, demandSum, demand}
 use Rattle.verdict.specs.Blocking.{blocking}
 use Rattle.verdict.specs.Verdict.{Breaks}
-use Rattle.verdict.proofs.Each.{Each, each-all, each-at, each-map, Periods, valid-periods}
+use Rattle.numbers.specs.Each.{Each}
+use Rattle.verdict.proofs.Each.{Periods, each-all, each-at, each-map, valid-periods}
 use Rattle.verdict.proofs.Demand.{demand-early, demand-due, sum-nil, sum-cons, sum-early}
 use Rattle.verdict.proofs.Blocking.{Floors, blocking-early, blocking-falls}
 use Rattle.verdict.proofs.Periodic.{Keeps}

@@ -13,7 +13,7 @@ use Rattle.verdict.specs.Demand.{demandOf, demandSum}
 use Rattle.verdict.specs.Blocking.{blockingPlan, blockingTasks}
 use Rattle.verdict.specs.Multiple.{multipleOf, multipleWith}
 use Rattle.verdict.specs.Verdict.{loadOf, largest}
-use Rattle.verdict.proofs.Each.{Each}
+use Rattle.numbers.specs.Each.{Each}
 use Rattle.verdict.proofs.Multiple.{with-nil, with-cons}
 use Rattle.verdict.proofs.Demand.{sum-nil, sum-cons, load-nil, load-cons, largest-cons}
 use Rattle.verdict.proofs.Blocking.{tasks-nil, tasks-cons}

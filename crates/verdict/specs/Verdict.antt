@@ -1,5 +1,6 @@
 -- The verdict (document 01, "The verdict"): what is answered, and what each answer means. `verdictOf` computes and looks no further than P plus the largest D;
--- `Judged` says what an answer means, for every t without end. The theorems: `verdictOf` is judged so, and two answers judged so are equal. Assumes nothing.
+-- `Judged` says what an answer means, for every t without end. The theorems: `verdictOf` is judged so (`verdict-judged`), and two answers judged so are equal (`judged-unique`). Assumes nothing.
+use Rattle.numbers.specs.Answers.{FITS, LATE, HEAVY, LONG}
 use Prim.Native.Nat.{ℕ, zero, suc, _+_, _*_, _/_, _≤_, _<_, max}
 use mathlib.Core.Path.{_≡_}
 use mathlib.Core.Bool.{Bool, true, false}
@@ -13,20 +14,15 @@ use Rattle.verdict.specs.Blocking.{blocking}
 use Rattle.verdict.specs.Multiple.{multiple}
 
 -- What is said: document 01's number, and with it a refusal's place, LATE's t, or 0.
-pub data Said : Type 0 where
-  says : ℕ → ℕ → Said
+pub data VerdictReply : Type 0 where
+  says : ℕ → ℕ → VerdictReply
 
-abbrev pub FITS : ℕ
-FITS = 20
+-- The number that is said, and what is said with it.
+abbrev pub numberIn : VerdictReply → ℕ
+numberIn (says number value) = number
 
-abbrev pub LATE : ℕ
-LATE = 21
-
-abbrev pub HEAVY : ℕ
-HEAVY = 22
-
-abbrev pub LONG : ℕ
-LONG = 23
+abbrev pub valueIn : VerdictReply → ℕ
+valueIn (says number value) = value
 
 -- "the sum of C * P / T"
 unfoldable pub loadOf : ℕ → List Task → ℕ
@@ -49,12 +45,12 @@ largest [] = 0
 largest (task ∷ tasks) = max (task .D) (largest tasks)
 
 -- The first of `left` numbers from t on that breaks, or FITS.
-unfoldable pub firstLate : ℕ → ℕ → Table → Said
+unfoldable pub firstLate : ℕ → ℕ → Table → VerdictReply
 firstLate zero t table = says FITS 0
 firstLate (suc left) t table = elim (breaks table t) [ true ↦ says LATE t | false ↦ firstLate left (suc t) table ]
 
 -- "in this order: 23 LONG if P is above 1,000,000; 22 HEAVY if the sum of C * P / T is above P; 21 LATE with the least t where h(t) + b(t) > t; else 20 FITS"
-unfoldable pub judge : Table → Said
+unfoldable pub judge : Table → VerdictReply
 judge table =
     elim (ltb mostMultiple (multiple table)) [
       | true ↦ says LONG 0
@@ -65,15 +61,15 @@ judge table =
     ]
 
 -- "After refusals 1 to 5"
-abbrev pub judgeFrom : Checked → Said
+abbrev pub judgeFrom : Checked → VerdictReply
 judgeFrom (sound table) = judge table
 judgeFrom (refused number place) = says number place
 
-unfoldable pub verdictOf : List ℕ → Said
+unfoldable pub verdictOf : List ℕ → VerdictReply
 verdictOf ws = judgeFrom (checkOf ws)
 
 -- What each answer means: FITS "speaks of every t without end", and LATE names the least t that breaks.
-pub data Judged (ws : List ℕ) (said : Said) : Type 0 where
+pub data Judged (ws : List ℕ) (said : VerdictReply) : Type 0 where
   is-refused : (number place : ℕ) → checkOf ws ≡ refused number place → said ≡ says number place → Judged ws said
   is-long : (table : Table) → checkOf ws ≡ sound table → mostMultiple < multiple table → said ≡ says LONG 0 → Judged ws said
   is-heavy : (table : Table) → checkOf ws ≡ sound table → multiple table ≤ mostMultiple →

@@ -1,7 +1,10 @@
 // The blocking b(t) of document 01, "The verdict": one pass over the tasks and their lock steps, with the floors computed once.
-use crate::work::greater;
+use numbers::greater_u64;
 use table::Map;
 use table::Next;
+use table::limits::MOST_RESOURCES;
+use table::limits::RESOURCES;
+use table::limits::TASKS;
 ghost use Prim.Native.Nat.{_<_};
 ghost use mathlib.Core.Path.{_≡_};
 ghost use mathlib.Core.Bool.{cond};
@@ -14,22 +17,27 @@ ghost use Rattle.verdict.specs.Blocking.{blockingStep, blockingPlan, blo
 ghost use Rattle.verdict.specs.Floors.{AreFloors};
 ghost use Rattle.verdict.specs.Times.{AreDeadlines};
 
-// The floors of the sixteen resources that a table may have.
-pub(crate) fn floors(words: &[u32], map: Map) -> [u64; 16]
+// The floors of all the resources that a table may have.
+pub(crate) fn floors(words: &[u32], map: Map) -> [u64; RESOURCES]
     ensures { λ r. ⌜ AreFloors (tableAt (now (words .entry)) map) r ⌝ }
 {
-    let mut all = [0u64; 16];
-    let mut r: u32 = 0;
-    while r < 16 {
+    let mut all = [0u64; RESOURCES];
+    for r in 0..MOST_RESOURCES {
         let floor = readers::floor(words, map, r) as u64;
         all[r as usize] = floor;
-        r += 1;
     }
     all
 }
 
 // One step: the length of a lock on a resource whose floor is at most t.
-fn blocking_step(words: &[u32], map: Map, floors: &[u64; 16], task: u32, place: u32, t: u64) -> u64
+fn blocking_step(
+    words: &[u32],
+    map: Map,
+    floors: &[u64; RESOURCES],
+    task: u32,
+    place: u32,
+    t: u64,
+) -> u64
     requires { ⌜ Valid (tableAt (now words) map) × AreFloors (tableAt (now words) map) (now floors) ⌝ }
     requires { ⌜ task < tasksOf (tableAt (now words) map) ⌝ }
     ensures { λ r. ⌜ r ≡ blockingStep (tableAt (now (words .entry)) map) t (getD (taskOf (tableAt (now (words .entry)) map) task .plan) place unlock) ⌝ }
@@ -48,23 +56,28 @@ fn blocking_step(words: &[u32], map: Map, floors: &[u64; 16], task: u32, place: 
 }
 
 // The greatest over a plan's steps, or 0.
-fn blocking_plan(words: &[u32], map: Map, floors: &[u64; 16], task: u32, t: u64) -> u64
+fn blocking_plan(words: &[u32], map: Map, floors: &[u64; RESOURCES], task: u32, t: u64) -> u64
     requires { ⌜ Valid (tableAt (now words) map) × AreFloors (tableAt (now words) map) (now floors) ⌝ }
     requires { ⌜ task < tasksOf (tableAt (now words) map) ⌝ }
     ensures { λ r. ⌜ r ≡ blockingPlan (tableAt (now (words .entry)) map) t (taskOf (tableAt (now (words .entry)) map) task .plan) ⌝ }
 {
     let steps = readers::steps(words, map, task);
     let mut most: u64 = 0;
-    let mut place: u32 = 0;
-    while place < steps {
-        most = greater(most, blocking_step(words, map, floors, task, place, t));
-        place += 1;
+    for place in 0..steps {
+        most = greater_u64(most, blocking_step(words, map, floors, task, place, t));
     }
     most
 }
 
 // One task's part of b(t): nothing unless its D is above t.
-fn blocking_of(words: &[u32], map: Map, floors: &[u64; 16], deadline: u64, task: u32, t: u64) -> u64
+fn blocking_of(
+    words: &[u32],
+    map: Map,
+    floors: &[u64; RESOURCES],
+    deadline: u64,
+    task: u32,
+    t: u64,
+) -> u64
     requires { ⌜ Valid (tableAt (now words) map) × AreFloors (tableAt (now words) map) (now floors) ⌝ }
     requires { ⌜ (task < tasksOf (tableAt (now words) map)) × (deadline ≡ taskOf (tableAt (now words) map) task .D) ⌝ }
     ensures { λ r. ⌜ r ≡ cond (ltb t (taskOf (tableAt (now (words .entry)) map) task .D))
@@ -80,8 +93,8 @@ fn blocking_of(words: &[u32], map: Map, floors: &[u64; 16], deadline: u64, task:
 pub(crate) fn blocking(
     words: &[u32],
     map: Map,
-    floors: &[u64; 16],
-    deadlines: &[u64; 16],
+    floors: &[u64; RESOURCES],
+    deadlines: &[u64; TASKS],
     t: u64,
 ) -> u64
     requires { ⌜ Valid (tableAt (now words) map) × AreFloors (tableAt (now words) map) (now floors) ⌝ }
@@ -90,13 +103,11 @@ pub(crate) fn blocking(
 {
     let n = readers::tasks(map);
     let mut most: u64 = 0;
-    let mut i: u32 = 0;
-    while i < n {
-        most = greater(
+    for i in 0..n {
+        most = greater_u64(
             most,
             blocking_of(words, map, floors, deadlines[i as usize], i, t),
         );
-        i += 1;
     }
     most
 }

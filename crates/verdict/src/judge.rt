@@ -3,13 +3,15 @@ use crate::Verdict;
 use crate::blocked::blocking;
 use crate::blocked::floors;
 use crate::euclid::multiple;
-use crate::limits::MOST_MULTIPLE;
 use crate::times::gather;
 use crate::work::demand;
 use crate::work::largest;
 use crate::work::load;
 use table::Finding;
 use table::Map;
+use table::limits::MOST_MULTIPLE;
+use table::limits::RESOURCES;
+use table::limits::TASKS;
 ghost use Prim.Native.Nat.{suc, _+_, _≤_};
 ghost use mathlib.Core.Path.{_≡_};
 ghost use Rattle.table.specs.Limits.{mostTicks, mostMultiple};
@@ -26,10 +28,10 @@ ghost use Rattle.verdict.specs.Said.{verdictSaid};
 fn demand_and_blocking(
     words: &[u32],
     map: Map,
-    floors: &[u64; 16],
-    periods: &[u64; 16],
-    deadlines: &[u64; 16],
-    costs: &[u64; 16],
+    floors: &[u64; RESOURCES],
+    periods: &[u64; TASKS],
+    deadlines: &[u64; TASKS],
+    costs: &[u64; TASKS],
     last: u64,
     t: u64,
 ) -> u64
@@ -38,7 +40,8 @@ fn demand_and_blocking(
     requires { ⌜ (last ≡ largestOf (tableAt (now words) map .tasks)) × (t ≤ mostMultiple + mostTicks) ⌝ }
     ensures { λ r. ⌜ r ≡ demandAt (tableAt (now (words .entry)) map) t + blockingAt (tableAt (now (words .entry)) map) t ⌝ }
 {
-    let asked = demand(words, map, periods, deadlines, costs, t);
+    let n = readers::tasks(map);
+    let asked = demand(n, periods, deadlines, costs, t);
     if t < last {
         return asked + blocking(words, map, floors, deadlines, t);
     }
@@ -49,10 +52,10 @@ fn demand_and_blocking(
 fn first_late(
     words: &[u32],
     map: Map,
-    floors: &[u64; 16],
-    periods: &[u64; 16],
-    deadlines: &[u64; 16],
-    costs: &[u64; 16],
+    floors: &[u64; RESOURCES],
+    periods: &[u64; TASKS],
+    deadlines: &[u64; TASKS],
+    costs: &[u64; TASKS],
     p: u64,
 ) -> Verdict
     requires { ⌜ Valid (tableAt (now words) map) × AreFloors (tableAt (now words) map) (now floors) ⌝ }
@@ -60,19 +63,18 @@ fn first_late(
     requires { ⌜ p ≤ mostMultiple ⌝ }
     ensures { λ r. ⌜ verdictSaid r ≡ firstLate (suc (p + largestOf (tableAt (now (words .entry)) map .tasks))) 0 (tableAt (now (words .entry)) map) ⌝ }
 {
-    let last = largest(words, map, deadlines);
+    let n = readers::tasks(map);
+    let last = largest(n, deadlines);
     let end = p + last;
-    let mut t: u64 = 0;
-    while t <= end {
+    for t in 0..=end {
         if demand_and_blocking(words, map, floors, periods, deadlines, costs, last, t) > t {
             return Verdict::Late(t);
         }
-        t += 1;
     }
     Verdict::Fits
 }
 
-// The verdict on a table within document 01's limits: LONG, HEAVY, LATE or FITS, in this order. Where P is above the limit nothing reads the sum.
+// The verdict on a table within document 01's limits: LONG, HEAVY, LATE or FITS, in this order.
 fn judge(words: &[u32], map: Map) -> Verdict
     requires { ⌜ Valid (tableAt (now words) map) ⌝ }
     ensures { λ r. ⌜ verdictSaid r ≡ judgeOf (tableAt (now (words .entry)) map) ⌝ }
@@ -81,12 +83,12 @@ fn judge(words: &[u32], map: Map) -> Verdict
     let periods = times.periods;
     let deadlines = times.deadlines;
     let costs = times.costs;
-    let p = multiple(words, map, &periods);
-    let sum = load(words, map, &periods, &costs, p);
+    let n = readers::tasks(map);
+    let p = multiple(n, &periods);
     if p > MOST_MULTIPLE {
         return Verdict::Long;
     }
-    if sum > p {
+    if load(n, &periods, &costs, p) > p {
         return Verdict::Heavy;
     }
     let floors = floors(words, map);

@@ -1,28 +1,24 @@
-// The work that a table asks for: HEAVY's sum, the demand h(t), and the largest D (document 01, "The verdict").
-use table::Map;
-ghost use Prim.Native.Nat.{_+_, _≤_, max};
+// The work that a table asks for: HEAVY's sum, the demand h(t), and the largest D (document 01, "The verdict"), all from its times: a table of n tasks
+// whose T, D and C stand in the arrays. Which table it is they don't ask, and what they answer holds of every one.
+use numbers::greater_u64;
+use table::limits::TASKS;
+ghost use Prim.Native.Nat.{_+_, _≤_};
 ghost use mathlib.Core.Path.{_≡_};
 ghost use Rattle.table.specs.Limits.{mostTicks, mostMultiple};
-ghost use Rattle.table.specs.Map.{tableAt};
-ghost use Rattle.table.specs.Valid.{Valid};
 ghost use Rattle.verdict.specs.Demand.{demandOf, demand as demandAt};
 ghost use Rattle.verdict.specs.Verdict.{loadOf, largest as largestOf};
-ghost use Rattle.verdict.specs.Times.{ArePeriods, AreDeadlines, AreCosts, AreTimes, timed};
+ghost use Rattle.verdict.specs.Times.{ArePeriods, AreDeadlines, AreCosts, AreTimes, SomeTable, EveryTable, timed};
 
 // "the sum of C * P / T"
-pub(crate) fn load(words: &[u32], map: Map, periods: &[u64; 16], costs: &[u64; 16], p: u64) -> u64
-    requires { ⌜ Valid (tableAt (now words) map) × (p ≤ mostMultiple + 1) ⌝ }
-    requires { ⌜ ArePeriods (tableAt (now words) map) (now periods) × AreCosts (tableAt (now words) map) (now costs) ⌝ }
-    ensures { λ r. ⌜ r ≡ loadOf p (tableAt (now (words .entry)) map .tasks) ⌝ }
+pub(crate) fn load(n: u32, periods: &[u64; TASKS], costs: &[u64; TASKS], p: u64) -> u64
+    requires { ⌜ SomeTable n (λ table. ArePeriods table (now periods) × AreCosts table (now costs)) × (p ≤ mostMultiple) ⌝ }
+    ensures { λ r. ⌜ EveryTable n (λ table. ArePeriods table (now (periods .entry)) × AreCosts table (now (costs .entry))) (λ table. r ≡ loadOf p (table .tasks)) ⌝ }
 {
-    let n = readers::tasks(map);
     let mut sum: u64 = 0;
-    let mut i: u32 = 0;
-    while i < n {
+    for i in 0..n {
         let cost = costs[i as usize];
         let period = periods[i as usize];
         sum += cost * p / period;
-        i += 1;
     }
     sum
 }
@@ -40,53 +36,35 @@ fn demand_of(period: u64, deadline: u64, cost: u64, t: u64) -> u64
 
 // h(t)
 pub(crate) fn demand(
-    words: &[u32],
-    map: Map,
-    periods: &[u64; 16],
-    deadlines: &[u64; 16],
-    costs: &[u64; 16],
+    n: u32,
+    periods: &[u64; TASKS],
+    deadlines: &[u64; TASKS],
+    costs: &[u64; TASKS],
     t: u64,
 ) -> u64
-    requires { ⌜ Valid (tableAt (now words) map) × (t ≤ mostMultiple + mostTicks) ⌝ }
-    requires { ⌜ AreTimes (tableAt (now words) map) (now periods) (now deadlines) (now costs) ⌝ }
-    ensures { λ r. ⌜ r ≡ demandAt (tableAt (now (words .entry)) map) t ⌝ }
+    requires { ⌜ SomeTable n (λ table. AreTimes table (now periods) (now deadlines) (now costs)) × (t ≤ mostMultiple + mostTicks) ⌝ }
+    ensures { λ r. ⌜ EveryTable n (λ table. AreTimes table (now (periods .entry)) (now (deadlines .entry)) (now (costs .entry))) (λ table. r ≡ demandAt table t) ⌝ }
 {
-    let n = readers::tasks(map);
     let mut sum: u64 = 0;
-    let mut i: u32 = 0;
-    while i < n {
+    for i in 0..n {
         sum += demand_of(
             periods[i as usize],
             deadlines[i as usize],
             costs[i as usize],
             t,
         );
-        i += 1;
     }
     sum
 }
 
-// The greater of two numbers.
-pub(crate) fn greater(a: u64, b: u64) -> u64
-    ensures { λ r. ⌜ r ≡ max a b ⌝ }
-{
-    if a < b {
-        return b;
-    }
-    a
-}
-
 // The largest D.
-pub(crate) fn largest(words: &[u32], map: Map, deadlines: &[u64; 16]) -> u64
-    requires { ⌜ AreDeadlines (tableAt (now words) map) (now deadlines) ⌝ }
-    ensures { λ r. ⌜ r ≡ largestOf (tableAt (now (words .entry)) map .tasks) ⌝ }
+pub(crate) fn largest(n: u32, deadlines: &[u64; TASKS]) -> u64
+    requires { ⌜ SomeTable n (λ table. AreDeadlines table (now deadlines)) ⌝ }
+    ensures { λ r. ⌜ EveryTable n (λ table. AreDeadlines table (now (deadlines .entry))) (λ table. r ≡ largestOf (table .tasks)) ⌝ }
 {
-    let n = readers::tasks(map);
     let mut most: u64 = 0;
-    let mut i: u32 = 0;
-    while i < n {
-        most = greater(most, deadlines[i as usize]);
-        i += 1;
+    for i in 0..n {
+        most = greater_u64(most, deadlines[i as usize]);
     }
     most
 }

@@ -2,7 +2,7 @@
 -- Assumes nothing.
 use mathlib.Core.Path.{_∙_, ap}
 use Rattle.board.specs.Answer.{checkAnswer}
-use Rattle.board.specs.Calls.{numberIn, foundAnswer}
+use Rattle.board.specs.Calls.{firstNumber, foundAnswer}
 use borrow.Author.Needs.{needs}
 use Rattle.board.proofs.lawqendo_check.Statement.{statement}
 use Rattle.board.proofs.lawqendo_check.Tie as tie
@@ -20,7 +20,7 @@ returns : tie.Need-returns
 unfolding foundAnswer
 returns c =
     let found = c .of-finding .ensures ∙ ap checkAnswer (c .before .check .ensures) in
-    (found, ap numberIn found)
+    (found, ap firstNumber found)
 
 pub lawqendo-check-spec : {M : Type 1} → statement M
 lawqendo-check-spec =

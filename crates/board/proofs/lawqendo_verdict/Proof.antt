@@ -2,7 +2,7 @@
 -- Assumes nothing.
 use mathlib.Core.Path.{_∙_, ap}
 use Rattle.board.specs.Answer.{verdictAnswer}
-use Rattle.board.specs.Calls.{numberIn, judgedAnswer}
+use Rattle.board.specs.Calls.{firstNumber, judgedAnswer}
 use borrow.Author.Needs.{needs}
 use Rattle.board.proofs.lawqendo_verdict.Statement.{statement}
 use Rattle.board.proofs.lawqendo_verdict.Tie as tie
@@ -20,7 +20,7 @@ returns : tie.Need-returns
 unfolding judgedAnswer
 returns c =
     let judged = c .of-verdict .ensures ∙ ap verdictAnswer (c .before .verdict .ensures) in
-    (judged, ap numberIn judged)
+    (judged, ap firstNumber judged)
 
 pub lawqendo-verdict-spec : {M : Type 1} → statement M
 lawqendo-verdict-spec =

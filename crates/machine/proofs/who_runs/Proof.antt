@@ -6,20 +6,21 @@ use mathlib.Core.Bool.{Bool}
 use native.Mathlib.Omega.{arith}
 use borrow.Author.Needs.{needs}
 use Rattle.sets.specs.Member.{has}
+use Rattle.table.specs.Limits.{mostTasks}
 use Rattle.machine.specs.Order.{bestFrom, whoRuns}
 use Rattle.machine.specs.Leader.{betterOf}
 use Rattle.machine.specs.declared.Leader.{Leader}
-use Rattle.machine.specs.declared.Now.{Now}
+use Rattle.machine.specs.declared.Kept.{Kept}
 use Rattle.machine.specs.declared.Who.{Who}
 use Rattle.machine.proofs.Choose.{Leads, Chosen, chosen, rowLeader, best-none, best-next}
 use Rattle.machine.proofs.who_runs.Statement.{statement}
 use Rattle.machine.proofs.who_runs.Tie as tie
 
 abbrev Inv-loop : tie.InvT-loop
-Inv-loop now best₀ i₀ best i = (i ≤ 16) × (bestFrom (16 - i) i now (best .who) ≡ whoRuns now) × Leads now best
+Inv-loop kept best₀ i₀ best i = (i ≤ mostTasks) × (bestFrom (mostTasks - i) i kept (best .who) ≡ whoRuns kept) × Leads kept best
 
 abbrev μ-loop : tie.MeasureT-loop
-μ-loop now best₀ i₀ best i = 16 - i
+μ-loop kept best₀ i₀ best i = mostTasks - i
 
 loop-holds : tie.Need-loop-holds Inv-loop μ-loop
 unfolding whoRuns
@@ -49,24 +50,24 @@ loop-less c = omega arith
 loop-again : tie.Need-loop-again Inv-loop μ-loop
 loop-again c =
     let l = c .before .before .before .before .loop in
-    let now : Now = c .before .before .before .before .before .args .t1 in
-    let told : c .better .result ≡ betterOf (l .best) (has (now .ready) (l .i)) (rowLeader now (l .i)) =
-    c .better .ensures ∙ ap (λ (r : Bool). betterOf (l .best) r (rowLeader now (l .i))) (c .before .has .ensures)
+    let kept : Kept = c .before .before .before .before .before .args .t1 in
+    let told : c .better .result ≡ betterOf (l .best) (has (kept .ready) (l .i)) (rowLeader kept (l .i)) =
+    c .better .ensures ∙ ap (λ (r : Bool). betterOf (l .best) r (rowLeader kept (l .i))) (c .before .has .ensures)
     in
-    let k : Chosen now (l .i) (l .best) (c .better .result) =
-    subst (λ (a : Leader). Chosen now (l .i) (l .best) a) (sym told) (chosen now (l .i) (l .best) (l .inv .2))
+    let k : Chosen kept (l .i) (l .best) (c .better .result) =
+    subst (λ (a : Leader). Chosen kept (l .i) (l .best) a) (sym told) (chosen kept (l .i) (l .best) (l .inv .2))
     in (
       omega arith,
-      ap (λ (w : Who). bestFrom (16 - (l .i + 1)) (l .i + 1) now w) (k .who) ∙ sym (best-next 16 (l .i) now (l .best .who) (omega arith)) ∙ l .inv .1,
+      ap (λ (w : Who). bestFrom (mostTasks - (l .i + 1)) (l .i + 1) kept w) (k .who) ∙ sym (best-next mostTasks (l .i) kept (l .best .who) (omega arith)) ∙ l .inv .1,
       k .leads,
     )
 
 returns : tie.Need-returns Inv-loop μ-loop
 returns c =
     let l = c .before .loop in
-    let now : Now = c .before .before .args .t1 in
-    let none : 16 - l .i ≡ zero = omega arith in
-    sym (best-none (l .i) now (l .best .who)) ∙ ap (λ (n : ℕ). bestFrom n (l .i) now (l .best .who)) (sym none) ∙ l .inv .1
+    let kept : Kept = c .before .before .args .t1 in
+    let none : mostTasks - l .i ≡ zero = omega arith in
+    sym (best-none (l .i) kept (l .best .who)) ∙ ap (λ (n : ℕ). bestFrom n (l .i) kept (l .best .who)) (sym none) ∙ l .inv .1
 
 pub who-runs-spec : {M : Type 1} → statement M
 who-runs-spec =

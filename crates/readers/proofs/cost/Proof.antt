@@ -1,4 +1,4 @@
--- `table::readers::cost` meets its contract, by the law `cost-at`.
+-- `readers::cost` meets its contract, by the law `cost-at`.
 -- Assumes nothing.
 use borrow.Author.Needs.{needs}
 use mathlib.Core.Path.{_∙_}

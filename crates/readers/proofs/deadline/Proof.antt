@@ -1,4 +1,4 @@
--- `table::readers::deadline` meets its contract, by the law `deadline-at`.
+-- `readers::deadline` meets its contract, by the law `deadline-at`.
 -- Assumes nothing.
 use borrow.Author.Needs.{needs}
 use mathlib.Core.Path.{_∙_}

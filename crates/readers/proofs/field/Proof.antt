@@ -1,4 +1,4 @@
--- `table::readers::field` meets its contract: a task below n has its word behind its start, any other has none.
+-- `readers::field` meets its contract: a task below n has its word behind its start, any other has none.
 -- Assumes nothing.
 use Prim.Native.Nat.{ℕ, _+_, _<_, _≤_, min}
 use mathlib.Core.Path.{ap, _∙_}

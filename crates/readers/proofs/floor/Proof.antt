@@ -1,22 +1,22 @@
--- `table::readers::floor` meets its contract. The loop's invariant: the least of the smallest D so far and the D of each user not visited yet
+-- `readers::floor` meets its contract. The loop's invariant: what the visit makes of the smallest D so far and the users not visited yet
 -- is the floor. The measure is the set of those users: taking the lowest out makes the number smaller.
 -- Assumes nothing.
 use Prim.Native.Nat.{ℕ, _^_, _<_}
 use mathlib.Core.Path.{_≡_, sym, ap, _∙_}
-use mathlib.Core.List.{_∷_}
 use borrow.Author.Needs.{needs}
 use native.Mathlib.Omega.{arith}
-use Rattle.sets.specs.Member.{width}
+use Rattle.sets.specs.Member.{width, members}
+use Rattle.sets.specs.Visit.{foldOf}
 use Rattle.sets.proofs.Trailing.{rest-less}
-use Rattle.table.specs.Floor.{least as leastOf, floorOf}
+use Rattle.table.specs.Floor.{floorOf}
 use Rattle.table.specs.Map.{tableAt}
-use Rattle.readers.proofs.Visiting.{deadlinesIn, floor-none, floor-first, floor-next, floor-last, tasks-few}
+use Rattle.readers.proofs.Visiting.{lesserD, floor-none, floor-first, floor-next, floor-last, tasks-few}
 use Rattle.readers.proofs.floor.Statement.{statement}
 use Rattle.readers.proofs.floor.Tie as tie
 
 abbrev Inv-loop : tie.InvT-loop
 Inv-loop words map resource all first least₀ rest₀ least rest =
-    (rest < 2 ^ width) × (leastOf (least ∷ deadlinesIn (tableAt words map) rest) ≡ floorOf (tableAt words map) resource)
+    (rest < 2 ^ width) × (foldOf (lesserD (tableAt words map)) least (members width rest) ≡ floorOf (tableAt words map) resource)
 
 abbrev μ-loop : tie.MeasureT-loop
 μ-loop words map resource all first least₀ rest₀ least rest = rest
@@ -46,8 +46,8 @@ loop-holds c =
 deadline-requires-2 : tie.Need-deadline-requires-2 Inv-loop μ-loop
 deadline-requires-2 c κs = search needs
 
-lesser-requires : tie.Need-lesser-requires Inv-loop μ-loop
-lesser-requires c κs = search needs
+lesser-u32-requires : tie.Need-lesser-u32-requires Inv-loop μ-loop
+lesser-u32-requires c κs = search needs
 
 without-requires-2 : tie.Need-without-requires-2 Inv-loop μ-loop
 without-requires-2 c κs = search needs
@@ -63,7 +63,7 @@ loop-again c =
     let h = c .before .before .before .before .loop in (
       omega arith,
       floor-next (tableAt (a .words .now) (a .map)) (h .least) (c .before .before .before .loop-test .taken) (h .inv .0)
-          (c .before .before .deadline2 .ensures) (c .without2 .ensures) (c .before .lesser .ensures)
+          (c .before .before .deadline2 .ensures) (c .without2 .ensures) (c .before .lesser-u32 .ensures)
           ∙ h .inv .1,
     )
 
@@ -72,7 +72,7 @@ returns-2 c =
     let a = c .before .before .before .before .before .before .before .args in
     let t = tableAt (a .words .now) (a .map) in
     let h = c .before .loop in
-    sym (floor-last t (h .least)) ∙ ap (λ (set : ℕ). leastOf (h .least ∷ deadlinesIn t set)) (sym (c .loop-test .left)) ∙ h .inv .1
+    sym (floor-last t (h .least)) ∙ ap (λ (set : ℕ). foldOf (lesserD t) (h .least) (members width set)) (sym (c .loop-test .left)) ∙ h .inv .1
 
 pub floor-spec : {M : Type 1} → statement M
 floor-spec =
@@ -86,7 +86,7 @@ floor-spec =
     without-requires
     loop-holds
     deadline-requires-2
-    lesser-requires
+    lesser-u32-requires
     without-requires-2
     loop-less
     loop-again

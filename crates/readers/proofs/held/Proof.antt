@@ -1,4 +1,4 @@
--- `table::readers::held` meets its contract: the steps before a place are as many as the smaller of the place and the plan's length, and
+-- `readers::held` meets its contract: the steps before a place are as many as the smaller of the place and the plan's length, and
 -- what they leave locked is `held_after`'s answer. A task that isn't there has no steps, and holds nothing.
 -- Assumes nothing.
 use Prim.Native.Nat.{ℕ, _<_, _≤_, min}
@@ -32,8 +32,8 @@ start-requires c κs = search needs
 plan-length-requires : tie.Need-plan-length-requires
 plan-length-requires c κs = search needs
 
-lesser-requires : tie.Need-lesser-requires
-lesser-requires c κs = search needs
+lesser-u32-requires : tie.Need-lesser-u32-requires
+lesser-u32-requires c κs = search needs
 
 held-after-requires : tie.Need-held-after-requires
 held-after-requires c κs =
@@ -45,7 +45,7 @@ returns-2 c =
     let a = c .before .before .before .before .before .before .before .args in
     let t : a .task < min (a .map .tasks) mostTasks = omega arith in
     let n = steps-there (a .words .now) (a .map) (a .task) t (c .before .before .before .start .ensures) (c .before .before .plan-length .ensures) in
-    let count : c .before .lesser .result ≡ min (a .place) (length (taskOf (tableAt (a .words .now) (a .map)) (a .task) .plan)) = omega arith in
+    let count : c .before .lesser-u32 .result ≡ min (a .place) (length (taskOf (tableAt (a .words .now) (a .map)) (a .task) .plan)) = omega arith in
     c .held-after .ensures
     ∙ ap₂ (λ (at k : ℕ). heldSet (heldAt (a .words .now) at k)) (c .before .before .before .start .ensures) count
     ∙ ap heldSet (sym (held-at (a .words .now) (a .map) (a .task) (a .place) t))
@@ -58,6 +58,6 @@ held-spec =
     returns
     start-requires
     plan-length-requires
-    lesser-requires
+    lesser-u32-requires
     held-after-requires
     returns-2)

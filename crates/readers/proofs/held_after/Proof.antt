@@ -1,4 +1,4 @@
--- `table::readers::held_after` meets its contract. The loop's invariant: the set, with what the steps not walked yet leave open and the unlocks
+-- `readers::held_after` meets its contract. The loop's invariant: the set, with what the steps not walked yet leave open and the unlocks
 -- that were met do not close, is the set that is asked for. The measure is how many steps are left.
 -- Assumes nothing.
 use Prim.Native.Nat.{_+_, _-_, _*_, _≤_, _<_}
@@ -7,7 +7,7 @@ use borrow.Author.Needs.{needs}
 use native.Mathlib.Omega.{arith}
 use lib.ListN.{getD, drop}
 use Rattle.sets.specs.Member.{width, withOf}
-use Rattle.table.specs.Limits.{mostSteps}
+use Rattle.table.specs.Limits.{mostSteps, atPlan, stepSize, atResource}
 use Rattle.table.specs.Held.{heldSet}
 use Rattle.readers.proofs.Closing.{heldAt, heldOn, walk-start, walk-lock, walk-closed, walk-unlock, walk-end}
 use Rattle.readers.proofs.held_after.Statement.{statement}
@@ -57,7 +57,7 @@ loop-again c =
     let a = c .before .before .before .before .before .before .before .before .args in
     let h = c .before .before .before .before .before .before .loop in
     let l : 0 < h .left = omega arith in
-    let set : c .with .result ≡ withOf width (h .set) (getD (a .words .now) (a .at + (4 + 3 * (h .left - 1) + 1)) 0) =
+    let set : c .with .result ≡ withOf width (h .set) (getD (a .words .now) (a .at + (atPlan + stepSize * (h .left - 1) + atResource)) 0) =
     c .with .ensures ∙ ap (withOf width (h .set)) (c .before .word2 .ensures)
     in (
       omega arith,

@@ -1,4 +1,4 @@
--- `table::readers::locks` meets its contract. The loop's invariant: whether the plan locks the resource is whether what is left of it does.
+-- `readers::locks` meets its contract. The loop's invariant: whether the plan locks the resource is whether what is left of it does.
 -- The measure is how many steps are left.
 -- Assumes nothing.
 use Prim.Native.Nat.{ℕ, _+_, _-_, _≤_, _<_, min}
@@ -7,7 +7,7 @@ use mathlib.Core.Logic.{⊎-elim}
 use borrow.Author.Needs.{needs}
 use native.Mathlib.Omega.{arith}
 use lib.ListN.{getD}
-use Rattle.table.specs.Limits.{mostSteps}
+use Rattle.table.specs.Limits.{mostSteps, atSteps}
 use Rattle.table.specs.Floor.{uses}
 use Rattle.table.specs.Map.{taskAt}
 use Rattle.readers.proofs.Raw.{locksFrom, locks-none, locks-all, locks-here, locks-other, locks-unlock}
@@ -24,14 +24,14 @@ abbrev μ-loop : tie.MeasureT-loop
 word-requires : tie.Need-word-requires Inv-loop μ-loop
 word-requires c κs = search needs
 
-lesser-requires : tie.Need-lesser-requires Inv-loop μ-loop
-lesser-requires c κs = search needs
+lesser-u32-requires : tie.Need-lesser-u32-requires Inv-loop μ-loop
+lesser-u32-requires c κs = search needs
 
 loop-holds : tie.Need-loop-holds Inv-loop μ-loop
 loop-holds c =
     let a = c .before .before .before .args in
-    let e : c .lesser .result ≡ min (getD (a .words .now) (a .at + 3) 0) mostSteps =
-    c .lesser .ensures ∙ ap (λ (s : ℕ). min s mostSteps) (c .before .word .ensures)
+    let e : c .lesser-u32 .result ≡ min (getD (a .words .now) (a .at + atSteps) 0) mostSteps =
+    c .lesser-u32 .ensures ∙ ap (λ (s : ℕ). min s mostSteps) (c .before .word .ensures)
     in
     (omega arith, omega arith, rw e (locks-all (a .words .now) (a .at) (a .resource)))
 
@@ -57,7 +57,7 @@ returns : tie.Need-returns Inv-loop μ-loop
 returns c =
     let a = c .before .before .before .before .before .before .before .before .before .args in
     let k = c .before .before .before .before .before .loop .k in
-    let n = c .before .before .before .before .before .before .lesser .result in
+    let n = c .before .before .before .before .before .before .lesser-u32 .result in
     sym (locks-here (a .words .now) (a .at) (a .resource) n k (c .before .before .before .before .loop-test .taken)
     (sym (c .before .before .before .word2 .ensures) ∙ c .before .before .if1 .taken) (sym (c .before .word3 .ensures) ∙ c .if2 .taken))
     ∙ c .before .before .before .before .before .loop .inv .2
@@ -72,7 +72,7 @@ loop-again : tie.Need-loop-again Inv-loop μ-loop
 loop-again c =
     let a = c .before .before .before .before .before .before .before .args in
     let k = c .before .before .before .loop .k in
-    let n = c .before .before .before .before .lesser .result in
+    let n = c .before .before .before .before .lesser-u32 .result in
     let l : k < n = c .before .before .loop-test .taken in
     let inv = c .before .before .before .loop .inv .2 in
     let kind = c .before .word2 .ensures in (
@@ -88,7 +88,7 @@ returns-2 : tie.Need-returns-2 Inv-loop μ-loop
 returns-2 c =
     let a = c .before .before .before .before .before .args in
     let k = c .before .loop .k in
-    let n = c .before .before .lesser .result in
+    let n = c .before .before .lesser-u32 .result in
     sym (locks-none (a .words .now) (a .at) (a .resource) n k (c .loop-test .left)) ∙ c .before .loop .inv .2
 
 pub locks-spec : {M : Type 1} → statement M
@@ -98,7 +98,7 @@ locks-spec =
     Inv-loop
     μ-loop
     word-requires
-    lesser-requires
+    lesser-u32-requires
     loop-holds
     cast-first
     mul-first

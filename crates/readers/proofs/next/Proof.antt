@@ -1,4 +1,4 @@
--- `table::readers::next` meets its contract: a place before the plan's end is read by the laws `next-lock` and `next-unlock`, behind it stands
+-- `readers::next` meets its contract: a place before the plan's end is read by the laws `next-lock` and `next-unlock`, behind it stands
 -- the finish, and so it does for a task that isn't there.
 -- Assumes nothing.
 use Prim.Native.Nat.{_<_, _≤_, min}
@@ -8,7 +8,8 @@ use lib.ListN.{length}
 use Rattle.table.specs.Limits.{mostTasks}
 use Rattle.table.specs.Table.{taskOf}
 use Rattle.table.specs.Map.{tableAt}
-use Rattle.readers.proofs.Raw.{steps-there, steps-none, next-lock, next-unlock, next-end}
+use Rattle.table.proofs.Plans.{next-finish}
+use Rattle.readers.proofs.Raw.{steps-there, steps-none, next-lock, next-unlock}
 use borrow.Author.Needs.{needs}
 use Rattle.readers.proofs.next.Statement.{statement}
 use Rattle.readers.proofs.next.Tie as tie
@@ -21,7 +22,7 @@ returns c =
     let a = c .before .before .before .args in
     let t : min (a .map .tasks) mostTasks ≤ a .task = omega arith in
     let l : length (taskOf (tableAt (a .words .now) (a .map)) (a .task) .plan) ≤ a .place = omega (arith, steps-none (a .words .now) (a .map) (a .task) t) in
-    sym (next-end (taskOf (tableAt (a .words .now) (a .map)) (a .task) .plan) (a .place) l)
+    sym (next-finish (taskOf (tableAt (a .words .now) (a .map)) (a .task) .plan) (a .place) l)
 
 start-requires : tie.Need-start-requires
 start-requires c κs = search needs
@@ -35,7 +36,7 @@ returns-2 c =
     let t : a .task < min (a .map .tasks) mostTasks = omega arith in
     let n = steps-there (a .words .now) (a .map) (a .task) t (c .before .before .start .ensures) (c .before .plan-length .ensures) in
     let l : length (taskOf (tableAt (a .words .now) (a .map)) (a .task) .plan) ≤ a .place = omega arith in
-    sym (next-end (taskOf (tableAt (a .words .now) (a .map)) (a .task) .plan) (a .place) l)
+    sym (next-finish (taskOf (tableAt (a .words .now) (a .map)) (a .task) .plan) (a .place) l)
 
 mul-first : tie.Need-mul-first
 mul-first c = search needs

@@ -1,4 +1,4 @@
--- `table::readers::period` meets its contract, by the law `period-at`.
+-- `readers::period` meets its contract, by the law `period-at`.
 -- Assumes nothing.
 use borrow.Author.Needs.{needs}
 use mathlib.Core.Path.{_∙_}

@@ -1,4 +1,4 @@
--- `table::readers::steps` meets its contract, by the law `steps-at`.
+-- `readers::steps` meets its contract, by the law `steps-at`.
 -- Assumes nothing.
 use Prim.Native.Nat.{ℕ, min}
 use borrow.Author.Needs.{needs}
@@ -11,13 +11,13 @@ use Rattle.readers.proofs.steps.Tie as tie
 field-requires : tie.Need-field-requires
 field-requires c κs = search needs
 
-lesser-requires : tie.Need-lesser-requires
-lesser-requires c κs = search needs
+lesser-u32-requires : tie.Need-lesser-u32-requires
+lesser-u32-requires c κs = search needs
 
 returns : tie.Need-returns
 returns c =
-    c .lesser .ensures ∙ ap (λ (s : ℕ). min s mostSteps) (c .before .field .ensures)
+    c .lesser-u32 .ensures ∙ ap (λ (s : ℕ). min s mostSteps) (c .before .field .ensures)
     ∙ steps-at (c .before .before .before .args .words .now) (c .before .before .before .args .map) (c .before .before .before .args .task)
 
 pub steps-spec : {M : Type 1} → statement M
-steps-spec = tie.close (tie.spec field-requires lesser-requires returns)
+steps-spec = tie.close (tie.spec field-requires lesser-u32-requires returns)

@@ -1,4 +1,4 @@
--- `table::readers::users` meets its contract. The loop's invariant: the set is that of the users among the tasks passed, from the last down.
+-- `readers::users` meets its contract. The loop's invariant: the set is that of the users among the tasks passed, from the last down.
 -- The measure is how many tasks are left.
 -- Assumes nothing.
 use Prim.Native.Nat.{ℕ, _-_, _≤_}

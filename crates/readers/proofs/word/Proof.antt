@@ -1,4 +1,4 @@
--- `table::readers::word` meets its contract: within the list the sum fits, since it is below the length; past it there is no word.
+-- `readers::word` meets its contract: within the list the sum fits, since it is below the length; past it there is no word.
 -- Assumes nothing.
 use borrow.Author.Needs.{needs}
 use mathlib.Core.Path.{sym}

@@ -5,7 +5,7 @@ use Rattle.dispatch.specs.Heard.{Begun}
 use Rattle.board.specs.Image.{decode, encode}
 use Rattle.board.specs.Answer.{checkAnswer}
 use Rattle.board.specs.Calls.{startImage, startAnswer}
-use Rattle.board.proofs.Typed.{started-whole}
+use Rattle.board.proofs.Typed.{started-typed}
 use Rattle.board.proofs.Codec.{decode-encode}
 use borrow.Author.Needs.{needs}
 use Rattle.board.proofs.events.start.Statement.{statement}
@@ -31,7 +31,7 @@ returns c =
     record {
       image-is = put ∙ ap (λ (b : Begun). encode (b .state)) (begun .ensures);
       answer-is = c .of-finding .ensures ∙ ap (λ (b : Begun). checkAnswer (b .said)) (begun .ensures);
-      state-is = ap decode put ∙ decode-encode (begun .result .state) (started-whole (begun .result) _ (begun .ok)) ∙ ap (λ (b : Begun). b .state) (begun .ensures);
+      state-is = ap decode put ∙ decode-encode (begun .result .state) (started-typed (begun .result) _ (begun .ok)) ∙ ap (λ (b : Begun). b .state) (begun .ensures);
     }
 
 pub start-spec : {M : Type 1} → statement M

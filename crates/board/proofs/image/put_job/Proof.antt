@@ -1,8 +1,8 @@
--- `board::image::put_job` meets its contract: nine stores in a row (`nine-stores`), each within the image.
+-- `board::image::put_job` meets its contract: one store behind the other (`row-stores`), each within the image.
 -- Assumes nothing.
 use native.Mathlib.Omega.{arith}
 use lib.ListN.{length-set}
-use Rattle.board.proofs.Parts.{nine-stores}
+use Rattle.board.proofs.Parts.{row-stores}
 use borrow.Author.Needs.{needs}
 use Rattle.board.proofs.image.put_job.Statement.{statement}
 use Rattle.board.proofs.image.put_job.Tie as tie
@@ -61,6 +61,9 @@ array-read-image-2 c = search needs
 add-image-5 : tie.Need-add-image-5
 add-image-5 c = search needs
 
+add-image-6 : tie.Need-add-image-6
+add-image-6 c = search needs
+
 mul-image-6 : tie.Need-mul-image-6
 mul-image-6 c = search needs
 
@@ -70,8 +73,11 @@ slice-write-image-6 c = simp length-set (omega arith)
 array-read-image-3 : tie.Need-array-read-image-3
 array-read-image-3 c = search needs
 
-add-image-6 : tie.Need-add-image-6
-add-image-6 c = search needs
+add-image-7 : tie.Need-add-image-7
+add-image-7 c = search needs
+
+add-image-8 : tie.Need-add-image-8
+add-image-8 c = search needs
 
 mul-image-7 : tie.Need-mul-image-7
 mul-image-7 c = search needs
@@ -82,8 +88,11 @@ slice-write-image-7 c = simp length-set (omega arith)
 array-read-image-4 : tie.Need-array-read-image-4
 array-read-image-4 c = search needs
 
-add-image-7 : tie.Need-add-image-7
-add-image-7 c = search needs
+add-image-9 : tie.Need-add-image-9
+add-image-9 c = search needs
+
+add-image-10 : tie.Need-add-image-10
+add-image-10 c = search needs
 
 mul-image-8 : tie.Need-mul-image-8
 mul-image-8 c = search needs
@@ -91,8 +100,8 @@ mul-image-8 c = search needs
 slice-write-image-8 : tie.Need-slice-write-image-8
 slice-write-image-8 c = simp length-set (omega arith)
 
-add-image-8 : tie.Need-add-image-8
-add-image-8 c = search needs
+add-image-11 : tie.Need-add-image-11
+add-image-11 c = search needs
 
 mul-image-9 : tie.Need-mul-image-9
 mul-image-9 c = search needs
@@ -104,7 +113,7 @@ same-length : tie.Need-same-length
 same-length c = simp length-set
 
 returns : tie.Need-returns
-returns c = let start = c .before .before in nine-stores (start .args .image .now) (start .args .at) (start .args .job) (start .pre)
+returns c = let start = c .before .before in row-stores (start .args .image .now) (start .args .at) (start .args .job) (start .pre)
 
 pub put-job-spec : {M : Type 1} → statement M
 put-job-spec =
@@ -128,17 +137,20 @@ put-job-spec =
     slice-write-image-5
     array-read-image-2
     add-image-5
+    add-image-6
     mul-image-6
     slice-write-image-6
     array-read-image-3
-    add-image-6
+    add-image-7
+    add-image-8
     mul-image-7
     slice-write-image-7
     array-read-image-4
-    add-image-7
+    add-image-9
+    add-image-10
     mul-image-8
     slice-write-image-8
-    add-image-8
+    add-image-11
     mul-image-9
     slice-write-image-9
     same-length

@@ -7,7 +7,7 @@ use native.Mathlib.Omega.{arith}
 use lib.ListN.{length, take, drop, getD}
 use Rattle.table.specs.Limits.{mostTasks}
 use Rattle.machine.specs.Order.{noJob}
-use Rattle.board.specs.Image.{imageSize, rowsAt, jobCells}
+use Rattle.board.specs.Image.{imageSize, rowsAt, rowSize, jobCells}
 use Rattle.board.proofs.Parts.{rowsPut, rows-none, row-more, rows-all}
 use Rattle.board.proofs.image.put_rows.Statement.{statement}
 use Rattle.board.proofs.image.put_rows.Tie as tie
@@ -47,7 +47,7 @@ loop-again c =
     let start = c .before .before .before .before .before .before .before .before in
     let at-loop = c .before .before .before .before .before .before .loop in
     let called = c .before .before .put-job in
-    (omega arith, called .kept .0 ∙ at-loop .inv .1, called .ensures ∙ ap (λ l. take (rowsAt + 9 * at-loop .i) l ++ (jobCells (getD (start .args .t2) (at-loop .i) noJob) ++ drop (rowsAt + 9 * at-loop .i + 9) l)) (at-loop .inv .2) ∙ row-more (start .args .image .now) (start .args .t2) (at-loop .i) (start .pre) (start .good .1 .0 .1 .0 .1) (c .before .before .before .before .before .loop-test .taken))
+    (omega arith, called .kept .0 ∙ at-loop .inv .1, called .ensures ∙ ap (λ l. take (rowsAt + rowSize * at-loop .i) l ++ (jobCells (getD (start .args .t2) (at-loop .i) noJob) ++ drop (rowsAt + rowSize * at-loop .i + rowSize) l)) (at-loop .inv .2) ∙ row-more (start .args .image .now) (start .args .t2) (at-loop .i) (start .pre) (start .good .1 .0 .1 .0 .1) (c .before .before .before .before .before .loop-test .taken))
 
 same-length : tie.Need-same-length Inv-loop μ-loop
 same-length c = c .before .loop .inv .1 ∙ sym (c .before .before .before .pre)

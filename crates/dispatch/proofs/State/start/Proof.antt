@@ -1,6 +1,6 @@
 -- `dispatch::State::start` meets its contract: the state goes with what the check finds. Assumes nothing.
 use Rattle.dispatch.proofs.Begun.{start-refused, start-sound, start-room}
-use Rattle.dispatch.proofs.Grounds.{not-told}
+use Rattle.torn.proofs.Grounds.{not-told}
 use borrow.Author.Needs.{needs}
 use Rattle.dispatch.proofs.State.start.Statement.{statement}
 use Rattle.dispatch.proofs.State.start.Tie as tie

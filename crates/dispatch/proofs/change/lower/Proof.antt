@@ -3,20 +3,20 @@ use borrow.Author.Needs.{needs}
 use Rattle.dispatch.proofs.change.lower.Statement.{statement}
 use Rattle.dispatch.proofs.change.lower.Tie as tie
 
-mul-saved : tie.Need-mul-saved
-mul-saved c = search needs
+mul-next : tie.Need-mul-next
+mul-next c = search needs
 
-array-write-saved : tie.Need-array-write-saved
-array-write-saved c = search needs
+element-write-next : tie.Need-element-write-next
+element-write-next c = search needs
 
-smaller-requires : tie.Need-smaller-requires
-smaller-requires c κs = search needs
+lesser-u64-requires : tie.Need-lesser-u64-requires
+lesser-u64-requires c κs = search needs
 
-add-t9 : tie.Need-add-t9
-add-t9 c = search needs
+add-next : tie.Need-add-next
+add-next c = search needs
 
 returns : tie.Need-returns
-returns c = rw (c .before .smaller .ensures)
+returns c = rw (c .before .lesser-u64 .ensures)
 
 pub lower-spec : {M : Type 1} → statement M
-lower-spec = tie.close (tie.spec mul-saved array-write-saved smaller-requires add-t9 returns)
+lower-spec = tie.close (tie.spec mul-next element-write-next lesser-u64-requires add-next returns)

@@ -1,9 +1,6 @@
 -- `dispatch::release::early` meets its contract: the sum of a stored time and a period does not wrap. Assumes nothing.
-use Rattle.dispatch.proofs.Whole.{last-most}
+use Rattle.torn.proofs.Untorn.{last-most}
 use borrow.Author.Needs.{needs}
-use mathlib.Core.Path.{sym, _∙_}
-use native.Mathlib.Omega.{arith}
-use Rattle.dispatch.proofs.Whole.{last-most}
 use mathlib.Core.Path.{sym, _∙_}
 use native.Mathlib.Omega.{arith}
 use Rattle.dispatch.proofs.release.early.Statement.{statement}

@@ -1,7 +1,6 @@
 -- `dispatch::said::goes_on` meets its contract. Assumes nothing.
-use Rattle.dispatch.proofs.Kept.{went-on}
+use Rattle.dispatch.proofs.After.{went-on}
 use borrow.Author.Needs.{needs}
-use Rattle.dispatch.proofs.Kept.{went-on}
 use Rattle.dispatch.proofs.said.goes_on.Statement.{statement}
 use Rattle.dispatch.proofs.said.goes_on.Tie as tie
 

@@ -1,8 +1,6 @@
 -- `dispatch::said::goes_on_late` meets its contract. Assumes nothing.
-use Rattle.dispatch.proofs.Kept.{went-late}
+use Rattle.dispatch.proofs.After.{went-late}
 use borrow.Author.Needs.{needs}
-use mir.Facts.{toZ-ofZ}
-use Rattle.dispatch.proofs.Kept.{went-late}
 use mir.Facts.{toZ-ofZ}
 use Rattle.dispatch.proofs.said.goes_on_late.Statement.{statement}
 use Rattle.dispatch.proofs.said.goes_on_late.Tie as tie

@@ -1,10 +1,7 @@
 -- `dispatch::said::turn` meets its contract: who runs is `whoRuns`, whose row is there. Assumes nothing.
-use Rattle.dispatch.proofs.Kept.{turn-idle, turn-runs}
+use Rattle.machine.proofs.Turn.{turn-idle, turn-runs}
 use Rattle.machine.proofs.Order.{who-ready}
 use borrow.Author.Needs.{needs}
-use mathlib.Core.Path.{sym, _∙_}
-use Rattle.dispatch.proofs.Kept.{turn-idle, turn-runs}
-use Rattle.machine.proofs.Order.{who-ready}
 use mathlib.Core.Path.{sym, _∙_}
 use Rattle.dispatch.proofs.said.turn.Statement.{statement}
 use Rattle.dispatch.proofs.said.turn.Tie as tie

@@ -1,9 +1,9 @@
 -- `dispatch::step::held_by_another` meets its contract: the members that are left decide. Assumes nothing.
 use Prim.Native.Nat.{ℕ, _<_}
 use Rattle.dispatch.proofs.Held.{held-has, another, others-fit}
-use Rattle.dispatch.proofs.Visit.{Left, left-all, left-done, left-below, left-hit, left-less, left-next}
+use Rattle.sets.proofs.Search.{Left, left-all, left-done, left-below, left-hit, left-less, left-next}
 use Rattle.machine.specs.Machine.{heldOf}
-use Rattle.machine.specs.declared.Now.{Now}
+use Rattle.machine.specs.declared.Kept.{Kept}
 use Rattle.sets.specs.Member.{width, has, withoutOf}
 use Rattle.table.specs.Held.{holds}
 use Rattle.table.specs.Limits.{mostTasks}
@@ -18,10 +18,10 @@ use native.Mathlib.Omega.{arith}
 use Rattle.dispatch.proofs.step.held_by_another.Statement.{statement}
 use Rattle.dispatch.proofs.step.held_by_another.Tie as tie
 
-abbrev holder : List ℕ → Map → Now → ℕ → ℕ → Bool
+abbrev holder : List ℕ → Map → Kept → ℕ → ℕ → Bool
 holder ws map kept r j = holds (heldOf (tableAt ws map) kept j) r
 
-abbrev others : Now → ℕ → ℕ
+abbrev others : Kept → ℕ → ℕ
 others kept i = withoutOf width (kept .ready) i
 
 abbrev Inv-loop : tie.InvT-loop

@@ -1,7 +1,7 @@
 -- `player::answer::answer` meets its contract: by the cases of the command that the line says. Assumes nothing.
 use borrow.Author.Needs.{needs}
 use mathlib.Core.Path.{_≡_, refl, sym, _∙_}
-use Rattle.script.proofs.Lay.{none-laid, whole}
+use Rattle.text.proofs.Lay.{none-laid, whole}
 use Rattle.player.proofs.Plays.{plays}
 use Rattle.player.proofs.answer.answer.Statement.{statement}
 use Rattle.player.proofs.answer.answer.Tie as tie

@@ -1,6 +1,5 @@
 -- `player::answer::check` meets its contract. Assumes nothing.
 use borrow.Author.Needs.{needs}
-use Rattle.player.proofs.Told.{finding-line}
 use Rattle.player.proofs.answer.check.Statement.{statement}
 use Rattle.player.proofs.answer.check.Tie as tie
 
@@ -14,7 +13,7 @@ same-length : tie.Need-same-length
 same-length c = search needs
 
 returns : tie.Need-returns
-returns c = finding-line _ (c .before .before .before .before .checked .result) _ (c .before .before .before .before .checked .ensures) (c .before .before .write-finding .ensures)
+returns c = rw (c .before .before .before .before .checked .ensures) at (c .before .before .write-finding .ensures)
 
 pub check-spec : {M : Type 1} → statement M
 check-spec = tie.close (tie.spec checked-requires write-finding-requires same-length returns)

@@ -6,17 +6,17 @@ use Rattle.player.proofs.Told.{clamped, clamped-length}
 use Rattle.player.proofs.answer.checked.Statement.{statement}
 use Rattle.player.proofs.answer.checked.Tie as tie
 
-lesser-requires : tie.Need-lesser-requires
-lesser-requires c κs = search needs
+lesser-usize-requires : tie.Need-lesser-usize-requires
+lesser-usize-requires c κs = search needs
 
 slice-aggregate-check : tie.Need-slice-aggregate-check
-slice-aggregate-check c = clamped-length (c .before .before .before .args .length) (c .before .lesser .result) (c .before .before .before .args .words .now) (c .before .lesser .ensures)
+slice-aggregate-check c = clamped-length (c .before .before .before .args .length) (c .before .lesser-usize .result) (c .before .before .before .args .words .now) (c .before .lesser-usize .ensures)
 
 check-requires : tie.Need-check-requires
 check-requires c κs = search needs
 
 returns : tie.Need-returns
-returns c = c .check .ensures ∙ ap checkSaid (clamped (c .before .before .before .before .args .length) (c .before .before .lesser .result) (c .before .before .before .before .args .words .now) (c .before .before .lesser .ensures))
+returns c = c .check .ensures ∙ ap checkSaid (clamped (c .before .before .before .before .args .length) (c .before .before .lesser-usize .result) (c .before .before .before .before .args .words .now) (c .before .before .lesser-usize .ensures))
 
 pub checked-spec : {M : Type 1} → statement M
-checked-spec = tie.close (tie.spec lesser-requires slice-aggregate-check check-requires returns)
+checked-spec = tie.close (tie.spec lesser-usize-requires slice-aggregate-check check-requires returns)

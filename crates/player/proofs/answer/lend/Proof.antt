@@ -4,7 +4,7 @@ use mathlib.Core.Path.{_≡_, sym, ap, _∙_}
 use Prim.Native.Nat.{ℕ}
 use mathlib.Core.List.{List}
 use Rattle.script.specs.Grammar.{tableOf}
-use Rattle.script.specs.Room.{written}
+use Rattle.text.specs.Room.{written}
 use Rattle.player.specs.declared.Session.{Session}
 use Rattle.player.proofs.answer.lend.Statement.{statement}
 use Rattle.player.proofs.answer.lend.Tie as tie

@@ -3,7 +3,6 @@ use borrow.Author.Needs.{needs}
 use mathlib.Core.Path.{_≡_, sym, ap, _∙_}
 use Rattle.dispatch.specs.Heard.{Heard}
 use Rattle.player.specs.Play.{withState}
-use Rattle.player.proofs.Told.{reply-line}
 use Rattle.player.proofs.answer.release.Statement.{statement}
 use Rattle.player.proofs.answer.release.Tie as tie
 
@@ -24,7 +23,7 @@ returns c =
     let made = c .before .before .before .before .before .before .release .ensures in
     record {
       session = c .with .ensures ∙ ap (withState (c .before .before .before .before .before .before .before .before .before .args .session)) (ap (λ (h : Heard). h .state) made);
-      answer = reply-line (c .before .before .before .before .before .before .release .result .reply) _ (ap (λ (h : Heard). h .said) made) (c .before .before .before .write-reply .ensures);
+      answer = rw (ap (λ (h : Heard). h .said) made) at (c .before .before .before .write-reply .ensures);
     }
 
 pub release-spec : {M : Type 1} → statement M

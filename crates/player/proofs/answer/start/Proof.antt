@@ -3,7 +3,6 @@ use borrow.Author.Needs.{needs}
 use mathlib.Core.Path.{_≡_, sym, ap, _∙_}
 use Rattle.dispatch.specs.Heard.{Begun}
 use Rattle.player.specs.Play.{withState}
-use Rattle.player.proofs.Told.{finding-line}
 use Rattle.player.proofs.answer.start.Statement.{statement}
 use Rattle.player.proofs.answer.start.Tie as tie
 
@@ -24,7 +23,7 @@ returns c =
     let made = c .before .before .before .before .before .before .started .ensures in
     record {
       session = c .with .ensures ∙ ap (withState (c .before .before .before .before .before .before .before .before .before .before .before .args .t1)) (ap (λ (b : Begun). b .state) made);
-      answer = finding-line _ (c .before .before .before .before .before .before .started .result .finding) _ (ap (λ (b : Begun). b .said) made) (c .before .before .before .write-started .ensures);
+      answer = rw (ap (λ (b : Begun). b .said) made) at (c .before .before .before .write-started .ensures);
     }
 
 pub start-spec : {M : Type 1} → statement M

@@ -1,6 +1,5 @@
 -- `player::answer::verdict` meets its contract. Assumes nothing.
 use borrow.Author.Needs.{needs}
-use Rattle.player.proofs.Told.{verdict-line}
 use Rattle.player.proofs.answer.verdict.Statement.{statement}
 use Rattle.player.proofs.answer.verdict.Tie as tie
 
@@ -14,7 +13,7 @@ same-length : tie.Need-same-length
 same-length c = search needs
 
 returns : tie.Need-returns
-returns c = verdict-line (c .before .before .before .before .judged .result) _ (c .before .before .before .before .judged .ensures) (c .before .before .write-verdict .ensures)
+returns c = rw (c .before .before .before .before .judged .ensures) at (c .before .before .write-verdict .ensures)
 
 pub verdict-spec : {M : Type 1} → statement M
 verdict-spec = tie.close (tie.spec judged-requires write-verdict-requires same-length returns)

@@ -7,10 +7,10 @@ use Rattle.player.proofs.run.append.Statement.{statement}
 use Rattle.player.proofs.run.append.Tie as tie
 
 abbrev Inv-loop : tie.InvT-loop
-Inv-loop room₀ length part at₀ i₀ room at i = lib.ListN.length room ≡ lib.ListN.length room₀
+Inv-loop room₀ length part at₀ i₀ i-end room at i = lib.ListN.length room ≡ lib.ListN.length room₀
 
 abbrev μ-loop : tie.MeasureT-loop
-μ-loop room₀ length part at₀ i₀ room at i = lib.ListN.length part - i
+μ-loop room₀ length part at₀ i₀ i-end room at i = lib.ListN.length part - i
 
 loop-holds : tie.Need-loop-holds Inv-loop μ-loop
 loop-holds c = refl

@@ -4,14 +4,14 @@ use Rattle.player.proofs.Told.{clamped-length}
 use Rattle.player.proofs.run.line_done.Statement.{statement}
 use Rattle.player.proofs.run.line_done.Tie as tie
 
-least-requires : tie.Need-least-requires
-least-requires c κs = search needs
+lesser-usize-requires : tie.Need-lesser-usize-requires
+lesser-usize-requires c κs = search needs
 
-least-requires-2 : tie.Need-least-requires-2
-least-requires-2 c κs = search needs
+lesser-usize-requires-2 : tie.Need-lesser-usize-requires-2
+lesser-usize-requires-2 c κs = search needs
 
 slice-aggregate-answer : tie.Need-slice-aggregate-answer
-slice-aggregate-answer c = clamped-length (c .before .before .before .before .before .before .args .length) (c .before .before .before .least .result) (c .before .before .before .before .before .before .args .room .now) (c .before .before .before .least .ensures)
+slice-aggregate-answer c = clamped-length (c .before .before .before .before .before .before .args .length) (c .before .before .before .lesser-usize .result) (c .before .before .before .before .before .before .args .room .now) (c .before .before .before .lesser-usize .ensures)
 
 sub-answer : tie.Need-sub-answer
 sub-answer c = search needs
@@ -25,11 +25,11 @@ part-answer-end c = search needs
 answer-requires : tie.Need-answer-requires
 answer-requires c κs = search needs
 
-sub-least : tie.Need-sub-least
-sub-least c = search needs
+sub-lesser-usize : tie.Need-sub-lesser-usize
+sub-lesser-usize c = search needs
 
-least-requires-3 : tie.Need-least-requires-3
-least-requires-3 c κs = search needs
+lesser-usize-requires-3 : tie.Need-lesser-usize-requires-3
+lesser-usize-requires-3 c κs = search needs
 
 add-flushed : tie.Need-add-flushed
 add-flushed c = search needs
@@ -47,15 +47,15 @@ pub line-done-spec : {M : Type 1} → statement M
 line-done-spec =
     tie.close
     (tie.spec
-    least-requires
-    least-requires-2
+    lesser-usize-requires
+    lesser-usize-requires-2
     slice-aggregate-answer
     sub-answer
     part-answer-start
     part-answer-end
     answer-requires
-    sub-least
-    least-requires-3
+    sub-lesser-usize
+    lesser-usize-requires-3
     add-flushed
     flushed-requires
     same-length

@@ -4,11 +4,11 @@ use Rattle.player.proofs.Told.{clamped-length}
 use Rattle.player.proofs.run.write_out.Statement.{statement}
 use Rattle.player.proofs.run.write_out.Tie as tie
 
-least-requires : tie.Need-least-requires
-least-requires c κs = search needs
+lesser-usize-requires : tie.Need-lesser-usize-requires
+lesser-usize-requires c κs = search needs
 
 slice-aggregate-write-all : tie.Need-slice-aggregate-write-all
-slice-aggregate-write-all c = clamped-length (c .before .before .before .args .filled) (c .before .least .result) (c .before .before .before .args .out .now) (c .before .least .ensures)
+slice-aggregate-write-all c = clamped-length (c .before .before .before .args .filled) (c .before .lesser-usize .result) (c .before .before .before .args .out .now) (c .before .lesser-usize .ensures)
 
 write-all-requires : tie.Need-write-all-requires
 write-all-requires c κs = search needs
@@ -18,4 +18,4 @@ returns c = search needs
 
 pub write-out-spec : {M : Type 1} → statement M
 write-out-spec =
-    tie.close (tie.spec least-requires slice-aggregate-write-all write-all-requires returns)
+    tie.close (tie.spec lesser-usize-requires slice-aggregate-write-all write-all-requires returns)

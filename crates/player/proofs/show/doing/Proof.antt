@@ -1,7 +1,7 @@
 -- `player::show::doing` meets its contract: by the cases of the next step. Assumes nothing.
 use borrow.Author.Needs.{needs}
 use mathlib.Core.Path.{_≡_, sym, ap, _∙_}
-use Rattle.script.specs.declared.Doing.the-variants.{Unlock}
+use Rattle.lines.specs.declared.Doing.the-variants.{Unlock}
 use Rattle.player.proofs.show.doing.Statement.{statement}
 use Rattle.player.proofs.show.doing.Tie as tie
 

@@ -1,7 +1,8 @@
 -- `player::show::lines` meets its contract: the clock's line, and the tasks' lines behind it. Assumes nothing.
+use Rattle.table.specs.Said.{Surveyed}
 use borrow.Author.Needs.{needs}
 use mathlib.Core.Path.{_≡_, sym, ap, _∙_}
-use Rattle.script.proofs.Lay.{then, from-written, whole}
+use Rattle.text.proofs.Lay.{then, from-written, whole}
 use Rattle.player.proofs.show.lines.Statement.{statement}
 use Rattle.player.proofs.show.lines.Tie as tie
 
@@ -18,7 +19,7 @@ same-length : tie.Need-same-length
 same-length c = search needs
 
 returns : tie.Need-returns
-returns c = rw (← c .before .before .before .before .before .before .before .before .before .survey .ensures .1) (whole (then (from-written (c .before .before .before .before .before .before .write-clock .ensures)) (c .before .before .put-tasks .ensures)))
+returns c = rw (← (ap (λ (x : Surveyed). x .map) (c .before .before .before .before .before .before .before .before .before .survey .ensures))) (whole (then (from-written (c .before .before .before .before .before .before .write-clock .ensures)) (c .before .before .put-tasks .ensures)))
 
 pub lines-spec : {M : Type 1} → statement M
 lines-spec =

@@ -4,7 +4,7 @@ use Prim.Native.Nat.{_≤_}
 use mathlib.Core.Path.{_≡_}
 use native.Mathlib.Omega.{arith}
 use lib.ListN.{length}
-use Rattle.script.proofs.Lay.{laid-full}
+use Rattle.text.proofs.Lay.{laid-full}
 use Rattle.player.proofs.Told.{from-middle}
 use Rattle.player.proofs.show.put_row.Statement.{statement}
 use Rattle.player.proofs.show.put_row.Tie as tie

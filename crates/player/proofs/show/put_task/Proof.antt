@@ -2,7 +2,7 @@
 use borrow.Author.Needs.{needs}
 use mathlib.Core.Path.{_≡_, sym, ap, _∙_}
 use Rattle.player.specs.Show.{taskText}
-use Rattle.script.proofs.Lay.{none-laid}
+use Rattle.text.proofs.Lay.{none-laid}
 use Rattle.player.proofs.show.put_task.Statement.{statement}
 use Rattle.player.proofs.show.put_task.Tie as tie
 

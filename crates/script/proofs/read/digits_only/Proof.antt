@@ -11,10 +11,10 @@ use Rattle.script.proofs.read.digits_only.Statement.{statement}
 use Rattle.script.proofs.read.digits_only.Tie as tie
 
 abbrev Inv-loop : tie.InvT-loop
-Inv-loop word i₀ i = digitsOnly (drop i word) ≡ digitsOnly word
+Inv-loop word i₀ i-end i = digitsOnly (drop i word) ≡ digitsOnly word
 
 abbrev μ-loop : tie.MeasureT-loop
-μ-loop word i₀ i = length word - i
+μ-loop word i₀ i-end i = length word - i
 
 loop-holds : tie.Need-loop-holds Inv-loop μ-loop
 loop-holds c = refl

@@ -1,13 +1,13 @@
--- `script::read::is_digit` meets its contract: each answer rewrites with the test that led there. Assumes nothing.
-use borrow.Author.Tests.{lt-leb, le-leb}
+-- `script::read::is_digit` meets its contract: not below `0`, and then not above `9`. Assumes nothing.
+use borrow.Author.Tests.{le-leb, lt-leb}
 use Rattle.script.proofs.read.is_digit.Statement.{statement}
 use Rattle.script.proofs.read.is_digit.Tie as tie
 
 returns : tie.Need-returns
-returns c = rw (lt-leb _ _ (c .if1 .taken))
+returns c = rw (le-leb 48 (c .before .args .byte) (c .if1 .taken))
 
 returns-2 : tie.Need-returns-2
-returns-2 c = rw (le-leb _ _ (c .if1 .left))
+returns-2 c = rw (lt-leb 48 (c .before .args .byte) (c .if1 .left))
 
 pub is-digit-spec : {M : Type 1} → statement M
 is-digit-spec = tie.close (tie.spec returns returns-2)

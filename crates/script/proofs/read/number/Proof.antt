@@ -1,7 +1,7 @@
 -- `script::read::number` meets its contract. Assumes nothing.
 use borrow.Author.Needs.{needs}
 use mathlib.Core.Path.{sym, _∙_}
-use Rattle.script.specs.Number.{numberOf}
+use Rattle.script.specs.Number.{numberSaid}
 use Rattle.script.proofs.read.number.Statement.{statement}
 use Rattle.script.proofs.read.number.Tie as tie
 

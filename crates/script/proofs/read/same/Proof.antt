@@ -5,16 +5,16 @@ use mathlib.Core.Path.{_≡_, refl, sym, _∙_}
 use native.Mathlib.Omega.{arith}
 use borrow.Author.Needs.{needs}
 use lib.ListN.{length, drop}
-use Rattle.script.specs.Bytes.{same}
+use Rattle.script.specs.Signs.{same}
 use Rattle.script.proofs.Scan.{same-length, same-end, same-differ, same-more}
 use Rattle.script.proofs.read.same.Statement.{statement}
 use Rattle.script.proofs.read.same.Tie as tie
 
 abbrev Inv-loop : tie.InvT-loop
-Inv-loop word other i₀ i = (length word ≡ length other) × (same (drop i word) (drop i other) ≡ same word other)
+Inv-loop word other i₀ i-end i = (length word ≡ length other) × (same (drop i word) (drop i other) ≡ same word other)
 
 abbrev μ-loop : tie.MeasureT-loop
-μ-loop word other i₀ i = length word - i
+μ-loop word other i₀ i-end i = length word - i
 
 returns : tie.Need-returns Inv-loop μ-loop
 returns c = sym (same-length (c .before .args .word .now) (c .before .args .other .now) (c .if1 .taken))

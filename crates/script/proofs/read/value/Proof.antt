@@ -11,10 +11,10 @@ use Rattle.script.proofs.read.value.Statement.{statement}
 use Rattle.script.proofs.read.value.Tie as tie
 
 abbrev Inv-loop : tie.InvT-loop
-Inv-loop word most n₀ i₀ n i = (n ≤ most) × (valueFrom n (drop i word) ≡ valueFrom 0 word)
+Inv-loop word most n₀ i₀ i-end n i = (n ≤ most) × (valueFrom n (drop i word) ≡ valueFrom 0 word)
 
 abbrev μ-loop : tie.MeasureT-loop
-μ-loop word most n₀ i₀ n i = length word - i
+μ-loop word most n₀ i₀ i-end n i = length word - i
 
 loop-holds : tie.Need-loop-holds Inv-loop μ-loop
 loop-holds c = (omega arith, refl)

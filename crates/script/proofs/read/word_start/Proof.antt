@@ -6,7 +6,7 @@ use native.Mathlib.Omega.{arith}
 use borrow.Author.Needs.{needs}
 use borrow.Author.Tests.{not-true, not-false}
 use lib.ListN.{length, drop}
-use Rattle.script.specs.Bytes.{blank}
+use Rattle.script.specs.Signs.{blank}
 use Rattle.script.specs.Cursor.{lead}
 use Rattle.script.proofs.Words.{lead-end, lead-stop, lead-more}
 use Rattle.script.proofs.read.word_start.Statement.{statement}

@@ -55,8 +55,8 @@ blocking-of-requires c κs =
     let below = subst (λ (k : ℕ). w .i < k) (w .inv .count) (c .before .loop-test .taken) in
     (s .pre .0, (below, s .pre .1 (w .i) below))
 
-greater-requires : tie.Need-greater-requires Inv-loop μ-loop
-greater-requires c κs = search needs
+greater-u64-requires : tie.Need-greater-u64-requires Inv-loop μ-loop
+greater-u64-requires c κs = search needs
 
 add-i : tie.Need-add-i Inv-loop μ-loop
 add-i c = search needs
@@ -68,7 +68,7 @@ loop-again : tie.Need-loop-again Inv-loop μ-loop
 loop-again c =
     let s = c .before .before .before .before .before .before .before in
     more (tableAt (s .args .words .now) (s .args .map)) (s .args .t) _ _ _ (c .before .before .before .before .loop .inv) (c .before .before .before .loop-test .taken)
-    (c .before .blocking-of .ensures) (c .greater .ensures)
+    (c .before .blocking-of .ensures) (c .greater-u64 .ensures)
 
 returns : tie.Need-returns Inv-loop μ-loop
 returns c =
@@ -89,7 +89,7 @@ blocking-spec =
     mul-blocking-of
     element-copy-out-blocking-of
     blocking-of-requires
-    greater-requires
+    greater-u64-requires
     add-i
     loop-less
     loop-again

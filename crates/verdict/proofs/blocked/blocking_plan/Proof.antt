@@ -51,8 +51,8 @@ loop-holds c = greatest-none _ _ _ _ (c .steps .ensures)
 blocking-step-requires : tie.Need-blocking-step-requires Inv-loop μ-loop
 blocking-step-requires c κs = c .before .before .before .before .pre
 
-greater-requires : tie.Need-greater-requires Inv-loop μ-loop
-greater-requires c κs = search needs
+greater-u64-requires : tie.Need-greater-u64-requires Inv-loop μ-loop
+greater-u64-requires c κs = search needs
 
 add-place : tie.Need-add-place Inv-loop μ-loop
 add-place c = search needs
@@ -65,7 +65,7 @@ loop-again c =
     let s = c .before .before .before .before .before .before in
     let table = tableAt (s .args .words .now) (s .args .map) in
     more table (s .args .t) (taskOf table (s .args .task) .plan) _ _ _ (c .before .before .before .loop .inv) (c .before .before .loop-test .taken)
-    (c .before .blocking-step .ensures) (c .greater .ensures)
+    (c .before .blocking-step .ensures) (c .greater-u64 .ensures)
 
 returns : tie.Need-returns Inv-loop μ-loop
 returns c =
@@ -82,7 +82,7 @@ blocking-plan-spec =
     steps-requires
     loop-holds
     blocking-step-requires
-    greater-requires
+    greater-u64-requires
     add-place
     loop-less
     loop-again

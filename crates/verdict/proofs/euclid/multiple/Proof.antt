@@ -1,5 +1,5 @@
 -- `euclid::multiple` meets its contract: the periods still to come make P of what is reached, and what has passed the limit divides P.
--- Every product is at most 1,000,000 * 1,000,000. The loop doesn't name the map, so what it keeps is said of every table that has these periods.
+-- Every product is at most 1,000,000 * 1,000,000.
 -- Assumes nothing.
 use Prim.Native.Nat.{ℕ, zero, _+_, _-_, _*_, _/_, _≤_, _<_, min}
 use mathlib.Core.Path.{_≡_, refl, sym, subst, ap, _∙_}
@@ -10,11 +10,9 @@ use borrow.Author.Needs.{needs}
 use lib.ListN.{getD}
 use Rattle.table.specs.Limits.{mostTicks, mostMultiple}
 use Rattle.table.specs.Table.{Table, Task, tasksOf, taskOf}
-use Rattle.table.specs.Map.{tableAt}
 use Rattle.table.specs.Valid.{Valid, ValidTask}
-use Rattle.readers.proofs.Raw.{tasks-at}
 use Rattle.verdict.specs.Multiple.{divisorOf, multipleOf, multipleWith, multiple}
-use Rattle.verdict.specs.Times.{ArePeriods}
+use Rattle.verdict.specs.Times.{ArePeriods, EveryTable}
 use Rattle.verdict.proofs.Each.{valid-periods}
 use Rattle.verdict.proofs.Divisor.{divisor-pos}
 use Rattle.verdict.proofs.Multiple.{multiple-pos, with-passes}
@@ -89,53 +87,49 @@ ended table n p i h l =
     omega (arith, h .goes, h .most)
 
 abbrev Inv-loop : tie.InvT-loop
-Inv-loop words periods n p₀ i₀ p i = (table : Table) → Valid table → ArePeriods table periods → n ≡ tasksOf table → Reached table n p i
+Inv-loop n periods p₀ i₀ p i = EveryTable n (λ table. ArePeriods table periods) (λ table. Reached table n p i)
 
 abbrev μ-loop : tie.MeasureT-loop
-μ-loop words periods n p₀ i₀ p i = n - i
-
-tasks-requires : tie.Need-tasks-requires Inv-loop μ-loop
-tasks-requires c κs = search needs
+μ-loop n periods p₀ i₀ p i = n - i
 
 loop-holds : tie.Need-loop-holds Inv-loop μ-loop
-loop-holds c = λ table v a e. start table _ e
+loop-holds c = λ table v e a. start table _ e
 
 cast-period : tie.Need-cast-period Inv-loop μ-loop
 cast-period c = search needs
 
 mul-period : tie.Need-mul-period Inv-loop μ-loop
-mul-period c = omega (arith, c .before .before .tasks .ensures, c .loop-test .taken)
+mul-period c = let known = c .before .before .pre in omega (arith, known .count, known .valid .tasks-most, c .loop-test .taken)
 
 element-copy-out-period : tie.Need-element-copy-out-period Inv-loop μ-loop
-element-copy-out-period c = omega (arith, c .before .before .tasks .ensures, c .loop-test .taken)
+element-copy-out-period c = let known = c .before .before .pre in omega (arith, known .count, known .valid .tasks-most, c .loop-test .taken)
 
 gcd-requires : tie.Need-gcd-requires Inv-loop μ-loop
 gcd-requires c κs = search needs
 
 div-p : tie.Need-div-p Inv-loop μ-loop
 div-p c =
-    let s = c .before .before .before .before .before .before in
+    let s = c .before .before .before .before in
+    let known = s .pre in
     let w = c .before .before .before .loop in
-    let count = c .before .before .before .before .tasks .ensures ∙ sym (tasks-at (s .args .words .now) (s .args .map)) in
-    some-divisor _ (s .args .periods .now) (s .pre .0) (s .pre .1) _ _ _ (w .inv _ (s .pre .0) (s .pre .1) count) (c .before .before .loop-test .taken) (c .gcd .ensures)
+    some-divisor _ (s .args .periods .now) (known .valid) (known .so) _ _ _ (w .inv _ (known .valid) (known .count) (known .so)) (c .before .before .loop-test .taken) (c .gcd .ensures)
 
 mul-p : tie.Need-mul-p Inv-loop μ-loop
 mul-p c =
-    let s = c .before .before .before .before .before .before in
+    let s = c .before .before .before .before in
+    let known = s .pre in
     let w = c .before .before .before .loop in
-    let count = c .before .before .before .before .tasks .ensures ∙ sym (tasks-at (s .args .words .now) (s .args .map)) in
-    omega (arith, small (tableAt (s .args .words .now) (s .args .map)) (s .args .periods .now) (s .pre .0) (s .pre .1) _ (w .p) (w .i) (w .inv _ (s .pre .0) (s .pre .1) count) (c .before .before .loop-test .taken) (c .gcd .result))
+    omega (arith, small (known .table) (s .args .periods .now) (known .valid) (known .so) _ (w .p) (w .i) (w .inv _ (known .valid) (known .count) (known .so)) (c .before .before .loop-test .taken) (c .gcd .result))
 
 add-result : tie.Need-add-result Inv-loop μ-loop
 add-result c = search needs
 
 returns : tie.Need-returns Inv-loop μ-loop
 returns c =
-    let s = c .before .before .before .before .before .before .before in
+    let s = c .before .before .before .before .before in
     let w = c .before .before .before .before .loop in
-    let count = c .before .before .before .before .before .tasks .ensures ∙ sym (tasks-at (s .args .words .now) (s .args .map)) in
-    passed _ (s .args .periods .now) (s .pre .0) (s .pre .1) _ _ _ (w .inv _ (s .pre .0) (s .pre .1) count) (c .before .before .before .loop-test .taken) (c .before .gcd .ensures)
-    (c .if1 .taken)
+    λ table v e a.
+    passed table (s .args .periods .now) v a _ _ _ (w .inv table v e a) (c .before .before .before .loop-test .taken) (c .before .gcd .ensures) (c .if1 .taken)
 
 add-i : tie.Need-add-i Inv-loop μ-loop
 add-i c = search needs
@@ -145,16 +139,13 @@ loop-less c = omega arith
 
 loop-again : tie.Need-loop-again Inv-loop μ-loop
 loop-again c =
-    let s = c .before .before .before .before .before .before .before in
+    let s = c .before .before .before .before .before in
     let w = c .before .before .before .before .loop in
-    λ table v a e.
-    again table (s .args .periods .now) v a _ _ _ (w .inv table v a e) (c .before .before .before .loop-test .taken) (c .before .gcd .ensures) (c .if1 .left)
+    λ table v e a.
+    again table (s .args .periods .now) v a _ _ _ (w .inv table v e a) (c .before .before .before .loop-test .taken) (c .before .gcd .ensures) (c .if1 .left)
 
 returns-2 : tie.Need-returns-2 Inv-loop μ-loop
-returns-2 c =
-    let s = c .before .before .before .before in
-    let count = c .before .before .tasks .ensures ∙ sym (tasks-at (s .args .words .now) (s .args .map)) in
-    ended _ _ _ _ (c .before .loop .inv _ (s .pre .0) (s .pre .1) count) (c .loop-test .left)
+returns-2 c = λ table v e a. ended table _ _ _ (c .before .loop .inv table v e a) (c .loop-test .left)
 
 pub multiple-spec : {M : Type 1} → statement M
 multiple-spec =
@@ -162,7 +153,6 @@ multiple-spec =
     (tie.spec
     Inv-loop
     μ-loop
-    tasks-requires
     loop-holds
     cast-period
     mul-period

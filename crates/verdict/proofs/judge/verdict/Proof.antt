@@ -1,6 +1,7 @@
 -- `judge::verdict` meets its contract, for every list of words: what the check refuses is refused with its number and place; of what it passes, the
 -- table that the map reads is the table of the words, and is within the limits.
 -- Assumes nothing.
+use Rattle.table.specs.Said.{Surveyed}
 use Prim.Native.Nat.{ℕ}
 use mathlib.Core.Path.{_≡_, refl, sym, subst, ap, _∙_}
 use mathlib.Core.Logic.{_≢_, inl, inr}
@@ -19,9 +20,9 @@ use Rattle.table.specs.declared.Map.{Map}
 use Rattle.table.specs.declared.Finding.{Finding}
 use Rattle.table.specs.declared.Finding.the-variants.{Sound, Short, Count, Range, Step, Nest}
 use Rattle.table.proofs.Finding.{the-type}
-use Rattle.table.proofs.Tests.{never}
+use Rattle.numbers.proofs.Tests.{never}
 use Rattle.table.proofs.Laws.{checked-valid, table-at}
-use Rattle.verdict.specs.Verdict.{Said, judge, verdictOf}
+use Rattle.verdict.specs.Verdict.{VerdictReply, judge, verdictOf}
 use Rattle.verdict.specs.Said.{refusalSaid}
 use Rattle.verdict.proofs.Judged.{verdict-sound, verdict-refused}
 use Rattle.verdict.proofs.judge.verdict.Statement.{statement}
@@ -49,12 +50,12 @@ module _ (ws : List ℕ) {map : Map} (own : map ≡ mapOf ws) (p : Passing ws) w
   within : Valid (tableAt ws map)
   within = subst Valid (sym reads) (checked-valid ws (p .table) (p .is))
 
-  judged : {said : Said} → said ≡ judge (tableAt ws map) → said ≡ verdictOf ws
+  judged : {said : VerdictReply} → said ≡ judge (tableAt ws map) → said ≡ verdictOf ws
   judged e = e ∙ ap judge reads ∙ sym (verdict-sound ws (p .table) (p .is))
 
 -- ---- a list that is refused
 
-refuses : (ws : List ℕ) (said : checks.Said) → said ≢ passes → said ≡ checkSaid ws → refusalSaid said ≡ verdictOf ws
+refuses : (ws : List ℕ) (said : checks.CheckReply) → said ≢ passes → said ≡ checkSaid ws → refusalSaid said ≡ verdictOf ws
 refuses ws said n e = go (checkOf ws) refl
   where
     go : (k : Checked) → checkOf ws ≡ k → refusalSaid said ≡ verdictOf ws
@@ -90,18 +91,18 @@ judge-requires : tie.Need-judge-requires
 judge-requires c κs =
     let s = c .before .before .before .before .before in
     let w = c .before .before .before .survey .ensures in
-    within (s .args .words .now) (w .1) (passing (s .args .words .now) (sym (ap saidOf (c .before .enum-told .given .1)) ∙ w .0))
+    within (s .args .words .now) ((ap (λ (x : Surveyed). x .map) w)) (passing (s .args .words .now) (sym (ap saidOf (c .before .enum-told .given .1)) ∙ (ap (λ (x : Surveyed). x .said) w)))
 
 returns : tie.Need-returns
 returns c =
     let s = c .before .before .before .before .before .before in
     let w = c .before .before .before .before .survey .ensures in
-    judged (s .args .words .now) (w .1) (passing (s .args .words .now) (sym (ap saidOf (c .before .before .enum-told .given .1)) ∙ w .0)) (c .judge .ensures)
+    judged (s .args .words .now) ((ap (λ (x : Surveyed). x .map) w)) (passing (s .args .words .now) (sym (ap saidOf (c .before .before .enum-told .given .1)) ∙ (ap (λ (x : Surveyed). x .said) w))) (c .judge .ensures)
 
 returns-2 : tie.Need-returns-2
 returns-2 c =
     let s = c .before .before .before in
-    refuses (s .args .words .now) _ (not-sound (c .before .survey .result .finding) (c .match .keys2)) (c .before .survey .ensures .0)
+    refuses (s .args .words .now) _ (not-sound (c .before .survey .result .finding) (c .match .keys2)) ((ap (λ (x : Surveyed). x .said) (c .before .survey .ensures)))
 
 pub verdict-spec : {M : Type 1} → statement M
 verdict-spec = tie.close (tie.spec survey-requires enum-told judge-requires returns returns-2)

@@ -1,5 +1,5 @@
 -- `work::demand` meets its contract: what is summed so far and the tasks still to come make h(t). The sum stays within 64 bits: sixteen times
--- 1,000,000 * (1 + 2,000,000). The loop doesn't name the map, so what it keeps is said of every table that has these times.
+-- 1,000,000 * (1 + 2,000,000).
 -- Assumes nothing.
 use Prim.Native.Nat.{ℕ, _+_, _-_, _*_, _≤_, _<_}
 use mathlib.Core.Path.{_≡_, sym, subst, ap, _∙_}
@@ -10,11 +10,9 @@ use borrow.Author.Needs.{needs}
 use lib.ListN.{getD}
 use Rattle.table.specs.Limits.{mostTicks, mostMultiple}
 use Rattle.table.specs.Table.{Task, Table, tasksOf, taskOf}
-use Rattle.table.specs.Map.{tableAt}
 use Rattle.table.specs.Valid.{Valid, ValidTask}
-use Rattle.readers.proofs.Raw.{tasks-at}
 use Rattle.verdict.specs.Demand.{demandOf, demandSum}
-use Rattle.verdict.specs.Times.{AreTimes, timed}
+use Rattle.verdict.specs.Times.{AreTimes, EveryTable, timed}
 use Rattle.verdict.proofs.Demand.{demand-most}
 use Rattle.verdict.proofs.Loop.{Summed, summed-none, summed-more, summed-all}
 use Rattle.verdict.proofs.Rest.{rest, demand-more, demand-done}
@@ -64,71 +62,65 @@ module _ (table : Table) (periods deadlines costs : List ℕ) (t n sum i : ℕ) 
       (demand-more table t i below ∙ ap (λ (x : ℕ). x + demandSum (rest table (i + 1)) t) (sym (part-is e)))
 
 abbrev Inv-loop : tie.InvT-loop
-Inv-loop words periods deadlines costs t n sum₀ i₀ sum i = (table : Table) → Valid table → t ≤ mostMultiple + mostTicks →
-    AreTimes table periods deadlines costs → n ≡ tasksOf table → So table t n sum i
+Inv-loop n periods deadlines costs t sum₀ i₀ sum i = t ≤ mostMultiple + mostTicks →
+    EveryTable n (λ table. AreTimes table periods deadlines costs) (λ table. So table t n sum i)
 
 abbrev μ-loop : tie.MeasureT-loop
-μ-loop words periods deadlines costs t n sum₀ i₀ sum i = n - i
-
-tasks-requires : tie.Need-tasks-requires Inv-loop μ-loop
-tasks-requires c κs = search needs
+μ-loop n periods deadlines costs t sum₀ i₀ sum i = n - i
 
 loop-holds : tie.Need-loop-holds Inv-loop μ-loop
-loop-holds c = λ table v l a e. summed-none _ _ _ _ _ e
+loop-holds c = λ l table v e a. summed-none _ _ _ _ _ e
 
 cast-demand-of : tie.Need-cast-demand-of Inv-loop μ-loop
 cast-demand-of c = search needs
 
 mul-demand-of : tie.Need-mul-demand-of Inv-loop μ-loop
-mul-demand-of c = omega (arith, c .before .before .tasks .ensures, c .loop-test .taken)
+mul-demand-of c = let known = c .before .before .pre .0 in omega (arith, known .count, known .valid .tasks-most, c .loop-test .taken)
 
 element-copy-out-demand-of : tie.Need-element-copy-out-demand-of Inv-loop μ-loop
-element-copy-out-demand-of c = omega (arith, c .before .before .tasks .ensures, c .loop-test .taken)
+element-copy-out-demand-of c = let known = c .before .before .pre .0 in omega (arith, known .count, known .valid .tasks-most, c .loop-test .taken)
 
 cast-demand-of-2 : tie.Need-cast-demand-of-2 Inv-loop μ-loop
 cast-demand-of-2 c = search needs
 
 mul-demand-of-2 : tie.Need-mul-demand-of-2 Inv-loop μ-loop
-mul-demand-of-2 c = omega (arith, c .before .before .before .tasks .ensures, c .before .loop-test .taken)
+mul-demand-of-2 c = let known = c .before .before .before .pre .0 in omega (arith, known .count, known .valid .tasks-most, c .before .loop-test .taken)
 
 element-copy-out-demand-of-2 : tie.Need-element-copy-out-demand-of-2 Inv-loop μ-loop
-element-copy-out-demand-of-2 c = omega (arith, c .before .before .before .tasks .ensures, c .before .loop-test .taken)
+element-copy-out-demand-of-2 c = let known = c .before .before .before .pre .0 in omega (arith, known .count, known .valid .tasks-most, c .before .loop-test .taken)
 
 cast-demand-of-3 : tie.Need-cast-demand-of-3 Inv-loop μ-loop
 cast-demand-of-3 c = search needs
 
 mul-demand-of-3 : tie.Need-mul-demand-of-3 Inv-loop μ-loop
-mul-demand-of-3 c = omega (arith, c .before .before .before .before .tasks .ensures, c .before .before .loop-test .taken)
+mul-demand-of-3 c = let known = c .before .before .before .before .pre .0 in omega (arith, known .count, known .valid .tasks-most, c .before .before .loop-test .taken)
 
 element-copy-out-demand-of-3 : tie.Need-element-copy-out-demand-of-3 Inv-loop μ-loop
-element-copy-out-demand-of-3 c = omega (arith, c .before .before .before .before .tasks .ensures, c .before .before .loop-test .taken)
+element-copy-out-demand-of-3 c = let known = c .before .before .before .before .pre .0 in omega (arith, known .count, known .valid .tasks-most, c .before .before .loop-test .taken)
 
 demand-of-requires : tie.Need-demand-of-requires Inv-loop μ-loop
 demand-of-requires c κs =
-    let s = c .before .before .before .before .before .before .before in
+    let s = c .before .before .before .before .before in
+    let known = s .pre .0 in
     let w = c .before .before .before .before .loop in
-    let table = tableAt (s .args .words .now) (s .args .map) in
-    let count = c .before .before .before .before .before .tasks .ensures ∙ sym (tasks-at (s .args .words .now) (s .args .map)) in
-    let so = w .inv table (s .pre .0 .0) (s .pre .0 .1) (s .pre .1) count in
+    let so = w .inv (s .pre .1) (known .table) (known .valid) (known .count) (known .so) in
     let taken = c .before .before .before .loop-test .taken in (
-      least table (s .args .periods .now) (s .args .deadlines .now) (s .args .costs .now) _ _ _ _ (s .pre .0 .0) (s .pre .0 .1) (s .pre .1) so taken,
-      most table (s .args .periods .now) (s .args .deadlines .now) (s .args .costs .now) _ _ _ _ (s .pre .0 .0) (s .pre .0 .1) (s .pre .1) so taken,
-      s .pre .0 .1,
+      least (known .table) (s .args .periods .now) (s .args .deadlines .now) (s .args .costs .now) _ _ _ _ (known .valid) (s .pre .1) (known .so) so taken,
+      most (known .table) (s .args .periods .now) (s .args .deadlines .now) (s .args .costs .now) _ _ _ _ (known .valid) (s .pre .1) (known .so) so taken,
+      s .pre .1,
     )
 
 add-sum : tie.Need-add-sum Inv-loop μ-loop
 add-sum c =
-    let s = c .before .before .before .before .before .before .before .before in
+    let s = c .before .before .before .before .before .before in
+    let known = s .pre .0 in
     let w = c .before .before .before .before .before .loop in
-    let table = tableAt (s .args .words .now) (s .args .map) in
-    let count = c .before .before .before .before .before .before .tasks .ensures ∙ sym (tasks-at (s .args .words .now) (s .args .map)) in
-    let so : So table (s .args .t) (c .before .before .before .before .before .before .tasks .result) (w .sum) (w .i) =
-    w .inv table (s .pre .0 .0) (s .pre .0 .1) (s .pre .1) count in
+    let so : So (known .table) (s .args .t) (s .args .n) (w .sum) (w .i) = w .inv (s .pre .1) (known .table) (known .valid) (known .count) (known .so) in
     let part : c .demand-of .result ≤ mostDemand =
-    part-most table (s .args .periods .now) (s .args .deadlines .now) (s .args .costs .now) _ _ _ _ (s .pre .0 .0) (s .pre .0 .1) (s .pre .1) so
+    part-most (known .table) (s .args .periods .now) (s .args .deadlines .now) (s .args .costs .now) _ _ _ _ (known .valid) (s .pre .1) (known .so) so
     (c .before .before .before .before .loop-test .taken) (c .demand-of .ensures)
     in
-    omega (arith, so .small, so .count, s .pre .0 .0 .tasks-most, c .before .before .before .before .loop-test .taken)
+    omega (arith, so .small, so .count, known .valid .tasks-most, c .before .before .before .before .loop-test .taken)
 
 add-i : tie.Need-add-i Inv-loop μ-loop
 add-i c = search needs
@@ -138,20 +130,19 @@ loop-less c = omega arith
 
 loop-again : tie.Need-loop-again Inv-loop μ-loop
 loop-again c =
-    let s = c .before .before .before .before .before .before .before .before in
+    let s = c .before .before .before .before .before .before in
     let w = c .before .before .before .before .before .loop in
-    λ table v l a e.
-    more table (s .args .periods .now) (s .args .deadlines .now) (s .args .costs .now) _ _ _ _ v l a (w .inv table v l a e)
+    λ l table v e a.
+    more table (s .args .periods .now) (s .args .deadlines .now) (s .args .costs .now) _ _ _ _ v l a (w .inv l table v e a)
     (c .before .before .before .before .loop-test .taken) (c .demand-of .ensures)
 
 returns : tie.Need-returns Inv-loop μ-loop
 returns c =
-    let s = c .before .before .before .before in
+    let s = c .before .before in
     let w = c .before .loop in
-    let table = tableAt (s .args .words .now) (s .args .map) in
-    let count : c .before .before .tasks .result ≡ tasksOf table = c .before .before .tasks .ensures ∙ sym (tasks-at (s .args .words .now) (s .args .map)) in
-    summed-all _ _ _ _ _ _ _ (w .inv table (s .pre .0 .0) (s .pre .0 .1) (s .pre .1) count)
-    (demand-done table (s .args .t) (w .i) (subst (λ (k : ℕ). k ≤ w .i) count (c .loop-test .left)))
+    λ table v e a.
+    summed-all _ _ _ _ _ _ _ (w .inv (s .pre .1) table v e a)
+    (demand-done table (s .args .t) (w .i) (subst (λ (k : ℕ). k ≤ w .i) e (c .loop-test .left)))
 
 pub demand-spec : {M : Type 1} → statement M
 demand-spec =
@@ -159,7 +150,6 @@ demand-spec =
     (tie.spec
     Inv-loop
     μ-loop
-    tasks-requires
     loop-holds
     cast-demand-of
     mul-demand-of

@@ -1,14 +1,11 @@
--- `work::largest` meets its contract: the greater of what is found so far and of the tasks still to come is the largest D. The loop doesn't name the
--- map, so what it keeps is said of every table that has these D.
+-- `work::largest` meets its contract: the greater of what is found so far and of the tasks still to come is the largest D.
 -- Assumes nothing.
 use Prim.Native.Nat.{ℕ, _+_, _-_, _≤_, _<_, max}
 use mathlib.Core.Path.{_≡_, sym, subst, ap, _∙_}
 use native.Mathlib.Omega.{arith}
 use borrow.Author.Needs.{needs}
-use Rattle.table.specs.Table.{Task, Table, tasksOf, taskOf}
-use Rattle.table.specs.Map.{tableAt}
-use Rattle.readers.proofs.Raw.{tasks-at}
-use Rattle.verdict.specs.Times.{AreDeadlines}
+use Rattle.table.specs.Table.{Task, Table, taskOf}
+use Rattle.verdict.specs.Times.{AreDeadlines, EveryTable}
 use Rattle.verdict.specs.Verdict.{largest}
 use Rattle.verdict.proofs.Loop.{Greatest, greatest-none, greatest-more, greatest-all}
 use Rattle.verdict.proofs.Rest.{rest, largest-more, largest-done}
@@ -25,28 +22,25 @@ more table n most i {d} {next} s h e q =
     (largest-more table i (subst (λ (k : ℕ). i < k) (s .count) h) ∙ ap (λ (x : ℕ). max x (largest (rest table (i + 1)))) (sym e)))
 
 abbrev Inv-loop : tie.InvT-loop
-Inv-loop words deadlines n most₀ i₀ most i = (table : Table) → AreDeadlines table deadlines → n ≡ tasksOf table → So table n most i
+Inv-loop n deadlines most₀ i₀ most i = EveryTable n (λ table. AreDeadlines table deadlines) (λ table. So table n most i)
 
 abbrev μ-loop : tie.MeasureT-loop
-μ-loop words deadlines n most₀ i₀ most i = n - i
-
-tasks-requires : tie.Need-tasks-requires Inv-loop μ-loop
-tasks-requires c κs = search needs
+μ-loop n deadlines most₀ i₀ most i = n - i
 
 loop-holds : tie.Need-loop-holds Inv-loop μ-loop
-loop-holds c = λ table a e. greatest-none _ _ _ _ e
+loop-holds c = λ table v e a. greatest-none _ _ _ _ e
 
-cast-greater : tie.Need-cast-greater Inv-loop μ-loop
-cast-greater c = search needs
+cast-greater-u64 : tie.Need-cast-greater-u64 Inv-loop μ-loop
+cast-greater-u64 c = search needs
 
-mul-greater : tie.Need-mul-greater Inv-loop μ-loop
-mul-greater c = omega (arith, c .before .before .tasks .ensures, c .loop-test .taken)
+mul-greater-u64 : tie.Need-mul-greater-u64 Inv-loop μ-loop
+mul-greater-u64 c = let known = c .before .before .pre in omega (arith, known .count, known .valid .tasks-most, c .loop-test .taken)
 
-element-copy-out-greater : tie.Need-element-copy-out-greater Inv-loop μ-loop
-element-copy-out-greater c = omega (arith, c .before .before .tasks .ensures, c .loop-test .taken)
+element-copy-out-greater-u64 : tie.Need-element-copy-out-greater-u64 Inv-loop μ-loop
+element-copy-out-greater-u64 c = let known = c .before .before .pre in omega (arith, known .count, known .valid .tasks-most, c .loop-test .taken)
 
-greater-requires : tie.Need-greater-requires Inv-loop μ-loop
-greater-requires c κs = search needs
+greater-u64-requires : tie.Need-greater-u64-requires Inv-loop μ-loop
+greater-u64-requires c κs = search needs
 
 add-i : tie.Need-add-i Inv-loop μ-loop
 add-i c = search needs
@@ -57,18 +51,16 @@ loop-less c = omega arith
 loop-again : tie.Need-loop-again Inv-loop μ-loop
 loop-again c =
     let w = c .before .before .before .loop in
-    λ table a e.
-    more table _ _ _ (w .inv table a e) (c .before .before .loop-test .taken)
-    (a (w .i) (subst (λ (k : ℕ). w .i < k) e (c .before .before .loop-test .taken))) (c .greater .ensures)
+    λ table v e a.
+    more table _ _ _ (w .inv table v e a) (c .before .before .loop-test .taken)
+    (a (w .i) (subst (λ (k : ℕ). w .i < k) e (c .before .before .loop-test .taken))) (c .greater-u64 .ensures)
 
 returns : tie.Need-returns Inv-loop μ-loop
 returns c =
-    let s = c .before .before .before .before in
     let w = c .before .loop in
-    let table = tableAt (s .args .words .now) (s .args .map) in
-    let count : c .before .before .tasks .result ≡ tasksOf table = c .before .before .tasks .ensures ∙ sym (tasks-at (s .args .words .now) (s .args .map)) in
-    greatest-all _ _ _ _ _ _ (w .inv table (s .pre) count)
-    (largest-done table (w .i) (subst (λ (k : ℕ). k ≤ w .i) count (c .loop-test .left)))
+    λ table v e a.
+    greatest-all _ _ _ _ _ _ (w .inv table v e a)
+    (largest-done table (w .i) (subst (λ (k : ℕ). k ≤ w .i) e (c .loop-test .left)))
 
 pub largest-spec : {M : Type 1} → statement M
 largest-spec =
@@ -76,12 +68,11 @@ largest-spec =
     (tie.spec
     Inv-loop
     μ-loop
-    tasks-requires
     loop-holds
-    cast-greater
-    mul-greater
-    element-copy-out-greater
-    greater-requires
+    cast-greater-u64
+    mul-greater-u64
+    element-copy-out-greater-u64
+    greater-u64-requires
     add-i
     loop-less
     loop-again

@@ -1,0 +1,1 @@
+// No code: demand 3, that a table that passes the check never sticks.

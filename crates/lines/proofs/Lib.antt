@@ -1,0 +1,4 @@
+-- Laws of the lines.
+pub mod Sign
+pub mod Members
+pub mod Names

@@ -1,0 +1,2 @@
+-- The lines that answer a script (docs/SCRIPT.md).
+pub mod Lines

@@ -1,0 +1,2 @@
+-- M1 to M12 hold.
+pub mod Mornings

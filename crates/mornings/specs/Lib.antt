@@ -1,0 +1,3 @@
+-- The marked mornings M1 to M12.
+pub mod Morning
+pub mod Mornings

@@ -1,0 +1,1 @@
+// No code: the marked mornings of document 01.

@@ -1,0 +1,3 @@
+-- The laws of tests and of `anyBelow`.
+pub mod Tests
+pub mod Any

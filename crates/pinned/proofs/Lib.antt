@@ -1,0 +1,3 @@
+-- Every public promise pins its answer.
+pub mod Meaning
+pub mod Pinned

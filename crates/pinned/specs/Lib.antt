@@ -1,0 +1,2 @@
+-- What it means that a promise pins its answer.
+pub mod Pinned

@@ -1,1 +1,0 @@
-// No code: the theorems about the definitions that the dispatcher's contracts cite.

@@ -1,0 +1,2 @@
+-- A run: a fresh start and any events.
+pub mod Run

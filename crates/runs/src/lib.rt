@@ -1,0 +1,1 @@
+// No code: runs, and what holds of every state that a run can reach.

@@ -1,0 +1,3 @@
+-- Laws of texts.
+pub mod Lay
+pub mod Digits
