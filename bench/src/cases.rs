@@ -1,13 +1,18 @@
 //! What is measured: events on two tables with few and with many ready jobs, and lists of words.
 
-use board_tests::calls::{second, Event};
-use board_tests::image::{encode, Image};
-use reference::limits::ROOM;
+use harness::image::{encode, Image};
+use harness::marked::{table_a_with, LENGTH_OF_2, TABLE_A};
+use harness::sets::all_below;
+use harness::Event;
+use reference::limits::{DEPTH, RESOURCES, ROOM, ROWS, STEPS};
+use reference::limits::{STEP_WORDS, TABLE_HEAD, TASKS, TASK_HEAD};
 use reference::{check, start, Reply, Row, State};
+
+use crate::twin::PERIOD;
 
 /// An event on an image.
 pub struct Case {
-    pub table: &'static str,
+    pub table: String,
     pub kind: &'static str,
     /// How many jobs are ready: for a release the new one included, for a step before it.
     pub ready: usize,
@@ -18,19 +23,15 @@ pub struct Case {
     pub changed: Vec<usize>,
 }
 
-/// Table A of document 01.
-pub const TABLE_A: [u32; 26] = [
-    3, 1, 20, 10, 3, 0, 30, 20, 9, 2, 1, 0, 1, 2, 0, 0, 40, 30, 10, 2, 1, 0, 4, 2, 0, 0,
-];
-
-/// Sixteen tasks with full plans: four times two sections one in the other, each resource with several users.
-pub fn full() -> Vec<u32> {
-    let mut words = vec![16, 16];
-    for task in 0..16 {
-        words.extend([400, 200 + 10 * task, 20, 16]);
-        for turn in 0..4 {
-            let outer = (task + 4 * turn) % 16;
-            let inner = (outer + 1) % 16;
+/// The longest table, as many tasks as there may be with full plans: two sections one in the other, again and again, each resource with
+/// several users.
+fn full() -> Vec<u32> {
+    let mut words = vec![TASKS, RESOURCES];
+    for task in 0..TASKS {
+        words.extend([400, 200 + 10 * task, 20, STEPS]);
+        for turn in 0..STEPS / 4 {
+            let outer = (task + 4 * turn) % RESOURCES;
+            let inner = (outer + 1) % RESOURCES;
             words.extend([1, outer, 4, 1, inner, 2, 2, 0, 0, 2, 0, 0]);
         }
     }
@@ -45,7 +46,7 @@ fn state(words: &[u32], tasks: std::ops::Range<usize>, place: u32) -> State {
     started.expect("the table passes the check");
     let table = check(words).expect("the table passes the check");
     state.clock = CLOCK;
-    state.had = (1 << table.tasks.len()) - 1;
+    state.had = all_below(table.tasks.len());
     state.count = 100;
     for task in tasks {
         state.ready |= 1 << task;
@@ -56,7 +57,7 @@ fn state(words: &[u32], tasks: std::ops::Range<usize>, place: u32) -> State {
             active: deadline,
             number: 99 - task as u64,
             place: if task == 0 { place } else { half },
-            saved: [0; 4],
+            saved: [0; DEPTH],
             last: CLOCK - 100,
         };
         // What is held was locked with a deadline to come back to.
@@ -66,9 +67,9 @@ fn state(words: &[u32], tasks: std::ops::Range<usize>, place: u32) -> State {
     state
 }
 
-fn case(table: &'static str, kind: &'static str, ready: usize, state: State, event: Event) -> Case {
+fn case(table: &str, kind: &'static str, ready: usize, state: State, event: Event) -> Case {
     let image = encode(&state);
-    let (after, reply) = second(&state, event);
+    let (after, reply) = event.on(&state);
     let after = match reply {
         Reply::Refused(_) => image,
         _ => encode(&after),
@@ -82,7 +83,7 @@ fn case(table: &'static str, kind: &'static str, ready: usize, state: State, eve
         .filter(|index| image[*index] != after[*index])
         .collect();
     Case {
-        table,
+        table: table.to_string(),
         kind,
         ready,
         state,
@@ -94,21 +95,23 @@ fn case(table: &'static str, kind: &'static str, ready: usize, state: State, eve
 
 /// Every event that is measured.
 pub fn events() -> Vec<Case> {
-    // In table A task 2 has the sections; it is put first, so that it is the one that runs.
-    let a = [
-        3, 1, 40, 30, 10, 2, 1, 0, 4, 2, 0, 0, 20, 10, 3, 0, 30, 20, 9, 2, 1, 0, 1, 2, 0, 0,
-    ];
+    // In table A task 2 is put first, so that it is the one that runs: it has a section.
+    let (head, tasks) = TABLE_A.split_at(TABLE_HEAD);
+    let (others, last) = tasks.split_at(tasks.len() - (TASK_HEAD + 2 * STEP_WORDS));
+    let a = [head, last, others].concat();
     let full = full();
     assert_eq!(full.len(), ROOM);
+    let longest = format!("{ROOM} words");
     let step = Event::Step { time: CLOCK + 1 };
     let release = Event::Release {
         task: 0,
         time: CLOCK + 1,
     };
     let mut cases = Vec::new();
-    for (table, words, counts, end) in [
-        ("table A", &a[..], &[1, 3][..], 2),
-        ("834 words", &full[..], &[1, 8, 16][..], 16),
+    // The places of the first unlock and of the finish.
+    for (table, words, counts, unlock, end) in [
+        ("table A", &a, &[1, 3][..], 1, 2),
+        (&longest, &full, &[1, ROWS / 2, ROWS][..], 2, STEPS),
     ] {
         for ready in counts.iter().copied() {
             let all = 0..ready;
@@ -119,12 +122,7 @@ pub fn events() -> Vec<Case> {
                 state(words, 1..ready, 0),
                 release,
             ));
-            for (kind, place) in [("lock", 0), ("unlock", 1), ("finish", end)] {
-                let place = if end == 16 && kind == "unlock" {
-                    2
-                } else {
-                    place
-                };
+            for (kind, place) in [("lock", 0), ("unlock", unlock), ("finish", end)] {
                 let state = state(words, all.clone(), place);
                 cases.push(case(table, kind, ready, state, step));
             }
@@ -137,20 +135,22 @@ pub fn events() -> Vec<Case> {
 }
 
 /// Every list of words whose verdict is measured, with a name.
-pub fn verdicts() -> Vec<(&'static str, Vec<u32>)> {
-    let mut late = TABLE_A.to_vec();
-    late[22] = 9;
-    let mut shorter = full();
-    // The costs of the full table fill the processor.
-    for task in 0..16 {
-        shorter[2 + 52 * task] = if task % 2 == 0 { 800 } else { 400 };
+pub fn verdicts() -> Vec<(String, Vec<u32>)> {
+    let mut longest = full();
+    // Its costs fill the processor; with longer periods it fits.
+    let task_words = TASK_HEAD + STEP_WORDS * STEPS as usize;
+    for (task, words) in longest[TABLE_HEAD..].chunks_mut(task_words).enumerate() {
+        words[PERIOD] = if task % 2 == 0 { 800 } else { 400 };
     }
     vec![
-        ("table A, FITS", TABLE_A.to_vec()),
-        ("M5, LATE 20", late),
-        ("834 words, FITS", shorter),
+        ("table A, FITS".to_string(), TABLE_A.to_vec()),
         (
-            "2 tasks, P 1,000,000",
+            "M5, LATE 20".to_string(),
+            table_a_with(LENGTH_OF_2, 9).to_vec(),
+        ),
+        (format!("{ROOM} words, FITS"), longest),
+        (
+            "2 tasks, P 1,000,000".to_string(),
             vec![2, 0, 64, 64, 30, 0, 15_625, 15_625, 2, 0],
         ),
     ]

@@ -2,10 +2,11 @@
 
 use std::hint::black_box;
 
-use board_tests::answers::Answer;
 use board_tests::archive::Archive;
-use board_tests::calls::{second, Calls, Event};
-use board_tests::image::Image;
+use harness::answers::{Answer, ANSWER};
+use harness::calls::Calls;
+use harness::image::Image;
+use harness::Event;
 
 use crate::cases::Case;
 use crate::twin::Twin;
@@ -34,7 +35,7 @@ impl Contender {
     /// One event, on a copy of the case's image. `begin` and `end` are called right before it and after it.
     pub fn event(self, case: &Case, begin: fn(), end: fn()) {
         let mut image = case.image;
-        let mut answer = [0; 5];
+        let mut answer = [0; ANSWER];
         begin();
         match self {
             Contender::Archive => measured(&Archive, &mut image, case.event, &mut answer),
@@ -47,7 +48,7 @@ impl Contender {
 
     /// One verdict. The twin's is the plain program's.
     pub fn verdict(self, words: &[u32], begin: fn(), end: fn()) {
-        let mut answer = [0; 5];
+        let mut answer = [0; ANSWER];
         begin();
         match self {
             Contender::Archive => measured_verdict(&Archive, words, &mut answer),
@@ -68,7 +69,7 @@ fn measured<C: Calls>(calls: &C, image: &mut Image, event: Event, answer: &mut A
 
 #[inline(never)]
 fn measured_second(case: &Case) {
-    black_box(second(black_box(&case.state), case.event));
+    black_box(case.event.on(black_box(&case.state)));
 }
 
 #[inline(never)]

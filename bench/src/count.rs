@@ -9,7 +9,7 @@ pub fn print() {
     for case in events() {
         for contender in Contender::ALL {
             contender.event(&case, begin, end);
-            let (table, kind, ready) = (case.table, case.kind, case.ready);
+            let (table, kind, ready) = (&case.table, case.kind, case.ready);
             println!("{table}\t{kind}\t{ready}\t{}", contender.name());
         }
     }

@@ -1,9 +1,9 @@
 //! The verdict as a plain program gives it: every whole t up to P plus the largest D is tried, one after the other.
 
-use board_tests::answers::Answer;
-use reference::limits::{FITS, HEAVY, LATE, LONG, LONGEST_PERIOD};
+use harness::answers::{plain, Answer};
+use reference::limits::{FITS, HEAVY, LATE, LONG, LONGEST_PERIOD, RESOURCES};
 
-use crate::twin::survey;
+use crate::twin::{steps, survey, COST, DEADLINE, PERIOD};
 
 struct Task {
     period: u64,
@@ -21,8 +21,8 @@ struct Lock {
 #[inline(never)]
 pub fn verdict(words: &[u32], answer: &mut Answer) -> u64 {
     let (number, value) = judge(words);
-    *answer = [u64::from(number), value, 0, 0, 0];
-    answer[0]
+    *answer = plain(u64::from(number), value);
+    u64::from(number)
 }
 
 fn judge(words: &[u32]) -> (u32, u64) {
@@ -34,9 +34,9 @@ fn judge(words: &[u32]) -> (u32, u64) {
     let tasks: Vec<Task> = starts
         .iter()
         .map(|start| Task {
-            period: u64::from(words[*start]),
-            deadline: u64::from(words[start + 1]),
-            cost: u64::from(words[start + 2]),
+            period: u64::from(words[start + PERIOD]),
+            deadline: u64::from(words[start + DEADLINE]),
+            cost: u64::from(words[start + COST]),
         })
         .collect();
 
@@ -92,22 +92,19 @@ fn blocking(locks: &[Lock], t: u64) -> u64 {
 
 /// Every lock step, with the floors asked for once.
 fn locks(words: &[u32], starts: &[usize]) -> Vec<Lock> {
-    let steps = |start: usize| {
-        let count = words[start + 3] as usize;
-        words[start + 4..start + 4 + 3 * count].chunks_exact(3)
-    };
-    let mut floors = [u64::MAX; 16];
+    let lock_steps = |start: usize| steps(words, start).filter(|step| step[0] == 1);
+    let mut floors = [u64::MAX; RESOURCES as usize];
     for start in starts {
-        for step in steps(*start).filter(|step| step[0] == 1) {
+        for step in lock_steps(*start) {
             let floor = &mut floors[step[1] as usize];
-            *floor = (*floor).min(u64::from(words[start + 1]));
+            *floor = (*floor).min(u64::from(words[start + DEADLINE]));
         }
     }
     let mut locks = Vec::new();
     for start in starts {
-        for step in steps(*start).filter(|step| step[0] == 1) {
+        for step in lock_steps(*start) {
             locks.push(Lock {
-                deadline: u64::from(words[start + 1]),
+                deadline: u64::from(words[start + DEADLINE]),
                 floor: floors[step[1] as usize],
                 length: u64::from(step[2]),
             });

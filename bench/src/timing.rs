@@ -4,7 +4,9 @@ use std::hint::black_box;
 use std::time::Instant;
 
 use board_tests::archive::Archive;
-use board_tests::calls::{second, Calls};
+use harness::answers::ANSWER;
+use harness::calls::Calls;
+use harness::image::Image;
 
 use crate::cases::{events, verdicts, Case};
 use crate::contenders::Contender;
@@ -26,8 +28,8 @@ fn spin(calls: usize, mut call: impl FnMut()) -> f64 {
 /// Nanoseconds an event. An event on an image is followed by putting back what it changed.
 fn event(contender: Option<Contender>, case: &Case, calls: usize) -> f64 {
     let mut image = case.image;
-    let mut answer = [0; 5];
-    let put_back = |image: &mut [u64; 566]| {
+    let mut answer = [0; ANSWER];
+    let put_back = |image: &mut Image| {
         for index in &case.changed {
             image[*index] = case.image[*index];
         }
@@ -42,7 +44,7 @@ fn event(contender: Option<Contender>, case: &Case, calls: usize) -> f64 {
             put_back(&mut image);
         }),
         Some(Contender::Second) => spin(calls, || {
-            black_box(second(black_box(&case.state), case.event));
+            black_box(case.event.on(black_box(&case.state)));
         }),
         // Nothing but what stands around an event.
         None => spin(calls, || {

@@ -3,15 +3,24 @@
 //! It is written for speed. It changes the image where it lies, unpacks the words that are in use, walks the table once, and takes nothing else apart. It is
 //! compared with the second program as the archive is (tests/twin.rs), so that what it is fast at is the right thing.
 
-use board_tests::answers::{Answer, ACCEPTED, FINISHED};
-use board_tests::calls::{Calls, Event};
-use board_tests::image::{at, Image, ACTIVE, BASE, CLOCK, COUNT, FIRST_ROW, HAD, LAST, LENGTH};
-use board_tests::image::{NUMBER, NUMBERS, PACKED, PLACE, READY, ROW, SAVED};
+use harness::answers::{plain, runs, Answer, ACCEPTED, FINISHED};
+use harness::calls::Calls;
+use harness::image::{at, Image, ACTIVE, BASE, CLOCK, COUNT, FIRST_ROW, HAD, LAST, LENGTH};
+use harness::image::{NUMBER, PLACE, READY, ROW, SAVED};
+use harness::sets::all_below;
+use harness::Event;
 use reference::limits::{self, COUNT_LIMIT, END_OF_TIME, ROOM, ROWS, STORED_TIME};
 use reference::limits::{BACK, DEPTH, EARLY, END, HELD, NEST, NOBODY, RANGE, SHORT, STEP, TORN};
-use reference::limits::{RESOURCES, STEPS, TASKS, TICKS};
+use reference::limits::{RESOURCES, STEPS, STEP_WORDS, TABLE_HEAD, TASKS, TASK_HEAD, TICKS};
 
-use crate::plain;
+use crate::plain::verdict;
+
+/// Where a task's words stand in it.
+pub(crate) const PERIOD: usize = 0;
+pub(crate) const DEADLINE: usize = 1;
+pub(crate) const COST: usize = 2;
+const TIMES: usize = 3;
+const COUNT_OF_STEPS: usize = TASK_HEAD - 1;
 
 /// What one walk over a sound table learns: how many tasks there are and where each starts.
 pub(crate) struct Survey {
@@ -36,21 +45,21 @@ pub(crate) fn survey(words: &[u32]) -> Result<Survey, Refused> {
     }
     let tasks = tasks as usize;
     let mut starts = [0; ROWS];
-    let mut at = 2;
+    let mut at = TABLE_HEAD;
     for start in &mut starts[..tasks] {
         *start = at;
-        for place in at..at + 3 {
+        for place in at..at + TIMES {
             let ticks = ask(place)?;
             if ticks == 0 || ticks > TICKS {
                 return Err((RANGE, place));
             }
         }
-        let cost = words[at + 2];
-        let steps = ask(at + 3)?;
+        let cost = words[at + COST];
+        let steps = ask(at + COUNT_OF_STEPS)?;
         if steps > STEPS {
-            return Err((limits::COUNT, at + 3));
+            return Err((limits::COUNT, at + COUNT_OF_STEPS));
         }
-        at = plan(words, at + 4, steps, resources, cost)?;
+        at = plan(words, at + TASK_HEAD, steps, resources, cost)?;
     }
     if at < words.len() {
         return Err((SHORT, at));
@@ -71,7 +80,7 @@ fn plan(
     let mut depth = 0;
     let mut sections = [(0, 0); DEPTH];
     for _ in 0..steps {
-        let Some(&[kind, resource, ticks]) = words.get(at..at + 3) else {
+        let Some(&[kind, resource, ticks]) = words.get(at..at + STEP_WORDS) else {
             return Err((SHORT, words.len()));
         };
         if kind == 1 {
@@ -99,7 +108,7 @@ fn plan(
             depth -= 1;
             held &= !(1 << sections[depth].0);
         }
-        at += 3;
+        at += STEP_WORDS;
     }
     if depth != 0 {
         return Err((NEST, at));
@@ -137,7 +146,8 @@ fn whole(image: &Image, words: &[u32]) -> Option<Survey> {
     let survey = survey(words).ok()?;
     let (clock, count) = (image[CLOCK], image[COUNT]);
     let (ready, had) = (image[READY] as u32, image[HAD] as u32);
-    if clock >= END_OF_TIME || count > COUNT_LIMIT || ready >> survey.tasks != 0 {
+    let below = all_below(survey.tasks);
+    if clock >= END_OF_TIME || count > COUNT_LIMIT || ready & !below != 0 {
         return None;
     }
     let (rows, _) = image[FIRST_ROW..].as_chunks::<ROW>();
@@ -149,7 +159,6 @@ fn whole(image: &Image, words: &[u32]) -> Option<Survey> {
             return None;
         }
     }
-    let below = (1u32 << survey.tasks) - 1;
     if members(had & below).any(|task| rows[task][LAST] > clock) {
         return None;
     }
@@ -157,7 +166,7 @@ fn whole(image: &Image, words: &[u32]) -> Option<Survey> {
     for task in members(ready) {
         others &= others - 1;
         let row = &rows[task];
-        if row[PLACE] as u32 > words[survey.starts[task] + 3]
+        if row[PLACE] as u32 > words[survey.starts[task] + COUNT_OF_STEPS]
             || row[NUMBER] >= count
             || members(others).any(|other| rows[other][NUMBER] == row[NUMBER])
         {
@@ -170,7 +179,7 @@ fn whole(image: &Image, words: &[u32]) -> Option<Survey> {
 /// The ready job with the earliest active deadline, and among equals the one released first.
 #[inline(always)]
 fn running(image: &Image) -> Option<usize> {
-    members(image[READY] as u32 & 0xffff)
+    members(image[READY] as u32 & all_below(ROWS))
         .min_by_key(|task| (image[at(*task, ACTIVE)], image[at(*task, NUMBER)]))
 }
 
@@ -184,15 +193,15 @@ fn accept(image: &mut Image, time: u64, number: u64, value: u64, answer: &mut An
         row[PLACE] &= 0xffff_ffff;
     }
     *answer = match running(image) {
-        Some(task) => [number, value, 1, task as u64, image[at(task, ACTIVE)]],
-        None => [number, value, 0, 0, 0],
+        Some(task) => runs(number, value, task as u64, image[at(task, ACTIVE)]),
+        None => plain(number, value),
     };
     number
 }
 
 fn refuse(number: u32, answer: &mut Answer) -> u64 {
-    *answer = [u64::from(number), 0, 0, 0, 0];
-    answer[0]
+    *answer = plain(u64::from(number), 0);
+    u64::from(number)
 }
 
 #[inline(never)]
@@ -219,17 +228,21 @@ pub fn release(image: &mut Image, task: u32, time: u64, answer: &mut Answer) -> 
     if image[READY] & bit != 0 {
         return refuse(limits::ACTIVE, answer);
     }
-    let period = u64::from(words[start]);
+    let period = u64::from(words[start + PERIOD]);
     if image[HAD] & bit != 0 && time < image[at(index, LAST)] + period {
         return refuse(EARLY, answer);
     }
-    let deadline = time + u64::from(words[start + 1]);
+    let deadline = time + u64::from(words[start + DEADLINE]);
     let number = image[COUNT];
     image[COUNT] += 1;
     image[READY] |= bit;
     image[HAD] |= bit;
-    image[at(index, 0)..at(index + 1, 0)]
-        .copy_from_slice(&[deadline, deadline, number, 0, 0, 0, 0, 0, time]);
+    let row = &mut image[at(index, 0)..at(index + 1, 0)];
+    row.fill(0);
+    row[BASE] = deadline;
+    row[ACTIVE] = deadline;
+    row[NUMBER] = number;
+    row[LAST] = time;
     accept(image, time, ACCEPTED, 0, answer)
 }
 
@@ -238,7 +251,7 @@ fn held(words: &[u32], start: usize, place: usize) -> (u32, usize) {
     let mut set = 0;
     let mut depth = 0;
     let mut sections = [0; DEPTH];
-    for step in words[start + 4..][..3 * place].chunks_exact(3) {
+    for step in words[start + TASK_HEAD..][..STEP_WORDS * place].chunks_exact(STEP_WORDS) {
         if step[0] == 1 {
             sections[depth] = step[1];
             depth += 1;
@@ -251,18 +264,24 @@ fn held(words: &[u32], start: usize, place: usize) -> (u32, usize) {
     (set, depth)
 }
 
+/// The steps of the plan of the task that starts here.
+pub(crate) fn steps(words: &[u32], start: usize) -> impl Iterator<Item = &[u32]> {
+    let count = words[start + COUNT_OF_STEPS] as usize;
+    words[start + TASK_HEAD..][..STEP_WORDS * count].chunks_exact(STEP_WORDS)
+}
+
 /// The least D among the users of a resource.
 fn floor(words: &[u32], survey: &Survey, resource: u32) -> u64 {
-    let uses = |start: &usize| {
-        let steps = words[start + 3] as usize;
-        words[start + 4..][..3 * steps]
-            .chunks_exact(3)
-            .any(|step| step[0] == 1 && step[1] == resource)
-    };
+    let uses = |start: &usize| steps(words, *start).any(|step| step[0] == 1 && step[1] == resource);
     let users = survey.starts[..survey.tasks]
         .iter()
         .filter(|start| uses(start));
-    u64::from(users.map(|start| words[start + 1]).min().unwrap_or(0))
+    u64::from(
+        users
+            .map(|start| words[start + DEADLINE])
+            .min()
+            .unwrap_or(0),
+    )
 }
 
 #[inline(never)]
@@ -285,13 +304,13 @@ pub fn step(image: &mut Image, time: u64, answer: &mut Answer) -> u64 {
     };
     let start = survey.starts[task];
     let place = image[at(task, PLACE)] as u32 as usize;
-    if place == words[start + 3] as usize {
+    if place == words[start + COUNT_OF_STEPS] as usize {
         let lateness = time as i64 - image[at(task, BASE)] as i64;
         image[READY] &= !(1 << task);
         image[at(task, BASE)..at(task, LAST)].fill(0);
         return accept(image, time, FINISHED, lateness as u64, answer);
     }
-    let first = start + 4 + 3 * place;
+    let first = start + TASK_HEAD + STEP_WORDS * place;
     let (_, depth) = held(words, start, place);
     if words[first] == 1 {
         let resource = words[first + 1];
@@ -317,23 +336,23 @@ pub fn step(image: &mut Image, time: u64, answer: &mut Answer) -> u64 {
 
 #[inline(never)]
 pub fn check(words: &[u32], answer: &mut Answer) -> u64 {
-    *answer = match survey(words) {
-        Ok(_) => [0; 5],
-        Err((number, place)) => [u64::from(number), place as u64, 0, 0, 0],
+    let (number, value) = match survey(words) {
+        Ok(_) => (ACCEPTED, 0),
+        Err((number, place)) => (u64::from(number), place as u64),
     };
-    answer[0]
+    *answer = plain(number, value);
+    number
 }
 
 #[inline(never)]
 pub fn start(words: &[u32], image: &mut Image, answer: &mut Answer) -> u64 {
-    *image = [0; NUMBERS];
-    if check(words, answer) == ACCEPTED {
-        for (packed, pair) in image[..PACKED].iter_mut().zip(words.chunks(2)) {
-            *packed = u64::from(pair[0]) | u64::from(pair.get(1).copied().unwrap_or(0)) << 32;
-        }
+    *image = Image::all(0);
+    let number = check(words, answer);
+    if number == ACCEPTED {
+        image.set_words(words);
         image[LENGTH] = words.len() as u64;
     }
-    answer[0]
+    number
 }
 
 /// The twin in the archive's place, for the comparison with the second program.
@@ -356,6 +375,6 @@ impl Calls for Twin {
     }
 
     fn verdict(&self, words: &[u32], answer: &mut Answer) -> u64 {
-        plain::verdict(words, answer)
+        verdict(words, answer)
     }
 }

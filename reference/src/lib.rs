@@ -7,14 +7,11 @@
 //! "01" in the comments is document 01, and the words in quotes after it are the heading of the section.
 
 pub mod check;
-pub mod generate;
 pub mod limits;
 pub mod machine;
-pub mod rng;
 pub mod script;
 pub mod state;
 pub mod table;
-pub mod tally;
 pub mod torn;
 pub mod verdict;
 

@@ -13,10 +13,16 @@ pub const DEPTH: usize = 4;
 /// The first time that is no clock any more: 2^40.
 pub const END_OF_TIME: u64 = 1 << 40;
 
-/// Room for the words of the longest table: 2 + 16 * (4 + 16 * 3).
-pub const ROOM: usize = 2 + 16 * (4 + 16 * 3);
+/// Words before the first task: n and m.
+pub const TABLE_HEAD: usize = 2;
+/// Words of a task before its steps: T, D, C and s.
+pub const TASK_HEAD: usize = 4;
+/// Words of a step: kind, resource and length.
+pub const STEP_WORDS: usize = 3;
+/// Room for the words of the longest table.
+pub const ROOM: usize = TABLE_HEAD + ROWS * (TASK_HEAD + STEPS as usize * STEP_WORDS);
 /// Rows in a state, one for each task that a table can have.
-pub const ROWS: usize = 16;
+pub const ROWS: usize = TASKS as usize;
 /// The greatest time that a state may store (01, "When an event is turned away").
 pub const STORED_TIME: u64 = END_OF_TIME + 1_000_000;
 /// The greatest count of accepted releases.
@@ -46,25 +52,39 @@ pub const LATE: u32 = 21;
 pub const HEAVY: u32 = 22;
 pub const LONG: u32 = 23;
 
-/// The name that document 01 gives to a number.
+/// What the check, and with it a start and a verdict, can refuse.
+pub const OF_TABLE: [u32; 5] = [SHORT, COUNT, RANGE, STEP, NEST];
+/// What a release can be refused with.
+pub const OF_RELEASE: [u32; 6] = [TORN, BACK, END, NOBODY, ACTIVE, EARLY];
+/// What a step can be refused with.
+pub const OF_STEP: [u32; 5] = [TORN, BACK, END, NOBODY, HELD];
+/// What a verdict on a sound table can be.
+pub const VERDICTS: [u32; 4] = [FITS, LATE, HEAVY, LONG];
+
+/// The name that document 01 gives to each number.
+pub const NAMES: [(u32, &str); 16] = [
+    (SHORT, "SHORT"),
+    (COUNT, "COUNT"),
+    (RANGE, "RANGE"),
+    (STEP, "STEP"),
+    (NEST, "NEST"),
+    (TORN, "TORN"),
+    (BACK, "BACK"),
+    (END, "END"),
+    (NOBODY, "NOBODY"),
+    (ACTIVE, "ACTIVE"),
+    (EARLY, "EARLY"),
+    (HELD, "HELD"),
+    (FITS, "FITS"),
+    (LATE, "LATE"),
+    (HEAVY, "HEAVY"),
+    (LONG, "LONG"),
+];
+
+/// The name of a number.
 pub fn name(number: u32) -> &'static str {
-    match number {
-        SHORT => "SHORT",
-        COUNT => "COUNT",
-        RANGE => "RANGE",
-        STEP => "STEP",
-        NEST => "NEST",
-        TORN => "TORN",
-        BACK => "BACK",
-        END => "END",
-        NOBODY => "NOBODY",
-        ACTIVE => "ACTIVE",
-        EARLY => "EARLY",
-        HELD => "HELD",
-        FITS => "FITS",
-        LATE => "LATE",
-        HEAVY => "HEAVY",
-        LONG => "LONG",
-        _ => "UNKNOWN",
-    }
+    NAMES
+        .iter()
+        .find(|(its, _)| *its == number)
+        .map_or("UNKNOWN", |(_, name)| name)
 }

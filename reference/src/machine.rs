@@ -1,6 +1,6 @@
 //! The two events and who runs (01, "The machine's rules" and "When an event is turned away").
 
-use crate::limits::{ACTIVE, BACK, EARLY, END, END_OF_TIME, HELD, NOBODY, TORN};
+use crate::limits::{ACTIVE, BACK, DEPTH, EARLY, END, END_OF_TIME, HELD, NOBODY, TORN};
 use crate::state::{contains, Row, State};
 use crate::table::{Step, Table};
 use crate::torn::whole;
@@ -69,7 +69,7 @@ fn try_release(state: &State, task: u32, time: u64) -> Result<(State, Reply), u3
         active: deadline,
         number: state.count,
         place: 0,
-        saved: [0; 4],
+        saved: [0; DEPTH],
         last: time,
     };
     let turn = turn(&after, &table);

@@ -3,15 +3,11 @@
 use std::io::{stdin, stdout, BufWriter, IsTerminal, Write};
 use std::process::ExitCode;
 
-use reference::generate::generate;
 use reference::script::{play, LineReader, Player};
-use reference::tally::tally;
 
 const USAGE: &str = "\
-usage: reference [play]                     answers the script on standard input
-       reference lines                      the same, and before each reply line the script's line
-       reference tally                      counts what the script on standard input meets
-       reference generate SEED COUNT [wild] writes a script with about COUNT replies, its tally to standard error";
+usage: reference [play]    answers the script on standard input
+       reference lines     the same, and before each reply line the script's line";
 
 fn main() -> ExitCode {
     let arguments: Vec<String> = std::env::args().skip(1).collect();
@@ -19,26 +15,15 @@ fn main() -> ExitCode {
     let done = match words.as_slice() {
         [] | ["play"] => answer(),
         ["lines"] => lines(),
-        ["tally"] => tally(stdin().lock()).and_then(|tally| write!(stdout(), "{tally}")),
-        ["generate", seed, count] => match (seed.parse(), count.parse()) {
-            (Ok(seed), Ok(count)) => write_script(seed, count, false),
-            _ => return usage(),
-        },
-        ["generate", seed, count, "wild"] => match (seed.parse(), count.parse()) {
-            (Ok(seed), Ok(count)) => write_script(seed, count, true),
-            _ => return usage(),
-        },
-        _ => return usage(),
+        _ => {
+            let _ = writeln!(std::io::stderr(), "{USAGE}");
+            return ExitCode::from(2);
+        }
     };
     match done {
         Ok(()) => ExitCode::SUCCESS,
         Err(_) => ExitCode::FAILURE,
     }
-}
-
-fn usage() -> ExitCode {
-    let _ = writeln!(std::io::stderr(), "{USAGE}");
-    ExitCode::from(2)
 }
 
 /// Answers the script. A person at the keyboard sees each reply at once.
@@ -69,12 +54,4 @@ fn lines() -> std::io::Result<()> {
         }
     }
     output.flush()
-}
-
-fn write_script(seed: u64, count: u64, wild: bool) -> std::io::Result<()> {
-    let script = generate(seed, count, wild);
-    let mut output = BufWriter::new(stdout().lock());
-    output.write_all(&script.text)?;
-    output.flush()?;
-    write!(std::io::stderr(), "{}", script.tally)
 }

@@ -1,14 +1,14 @@
 //! The dispatcher's state, and the start that makes one from a checked table.
 
 use crate::check::{check, Refusal};
-use crate::limits::{ROOM, ROWS};
+use crate::limits::{DEPTH, ROOM, ROWS};
 use crate::table::Table;
 
 /// Everything that the dispatcher remembers. Every combination of values is a legal input of an event:
 /// one that no start leads to is a made-up state, and it has a reply too.
 #[derive(Clone, PartialEq, Eq, Debug)]
 pub struct State {
-    /// Room for the longest table, always 834 words. Those behind `length` aren't read.
+    /// Room for the longest table, always all of it. The words behind `length` aren't read.
     pub words: Vec<u32>,
     /// How many of the words are the table.
     pub length: u64,
@@ -35,7 +35,7 @@ pub struct Row {
     /// How many steps of its plan the job has done.
     pub place: u32,
     /// The active deadlines from before each lock that is still held, the outermost first; 0 where none is.
-    pub saved: [u64; 4],
+    pub saved: [u64; DEPTH],
     /// The time of the task's last accepted release.
     pub last: u64,
 }

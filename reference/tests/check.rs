@@ -1,9 +1,7 @@
 //! Refusals 1 to 5: every ground, its place, and which goes first.
 
-mod common;
-
-use common::{table_a_with, TABLE_A};
-use reference::limits::{COUNT, NEST, RANGE, SHORT, STEP};
+use harness::marked::{table_a_with, TABLE_A};
+use reference::limits::{COUNT, NEST, RANGE, RESOURCES, ROOM, SHORT, STEP, STEPS, TASKS};
 use reference::{check, Refusal, Step};
 
 fn refused(words: &[u32], number: u32, place: usize) {
@@ -62,15 +60,15 @@ fn a_step_is_asked_for_whole_before_it_is_judged() {
 #[test]
 fn count() {
     refused(&[0, 0], COUNT, 0);
-    refused(&[17, 0], COUNT, 0);
+    refused(&[TASKS + 1, 0], COUNT, 0);
     refused(&[u32::MAX], COUNT, 0);
-    refused(&[1, 17], COUNT, 1);
-    refused(&[1, 0, 5, 5, 5, 17], COUNT, 5);
-    assert!(check(&[1, 16, 5, 5, 5, 0]).is_ok());
+    refused(&[1, RESOURCES + 1], COUNT, 1);
+    refused(&[1, 0, 5, 5, 5, STEPS + 1], COUNT, 5);
+    assert!(check(&[1, RESOURCES, 5, 5, 5, 0]).is_ok());
     assert!(check(&[1, 0, 5, 5, 5, 0]).is_ok());
-    let mut sixteen = vec![16, 0];
-    sixteen.extend([1, 1, 1, 0].repeat(16));
-    assert!(check(&sixteen).is_ok());
+    let mut most = vec![TASKS, 0];
+    most.extend([1, 1, 1, 0].repeat(TASKS as usize));
+    assert!(check(&most).is_ok());
 }
 
 #[test]
@@ -145,15 +143,16 @@ fn sections_that_are_allowed() {
 
 #[test]
 fn the_longest_table_and_one_word_more() {
-    let mut words = vec![16, 16];
-    for _ in 0..16 {
-        words.extend([1_000_000, 1_000_000, 1_000_000, 16]);
-        words.extend([1, 15, 1_000_000, 2, 0, 0].repeat(8));
+    let mut words = vec![TASKS, RESOURCES];
+    for _ in 0..TASKS {
+        words.extend([1_000_000, 1_000_000, 1_000_000, STEPS]);
+        let section = [1, RESOURCES - 1, 1_000_000, 2, 0, 0];
+        words.extend(section.repeat(STEPS as usize / 2));
     }
-    assert_eq!(words.len(), 834);
+    assert_eq!(words.len(), ROOM);
     assert!(check(&words).is_ok());
     words.push(0);
-    refused(&words, SHORT, 834);
+    refused(&words, SHORT, ROOM);
     words.extend([1; 5000]);
-    refused(&words, SHORT, 834);
+    refused(&words, SHORT, ROOM);
 }

@@ -2,10 +2,12 @@
 
 mod common;
 
-use common::{after, finished, fresh, job, runs, Event, TABLE_A, TABLE_M12};
-use reference::limits::{ACTIVE, BACK, EARLY, END, END_OF_TIME, HELD, NOBODY, STORED_TIME, TORN};
-use reference::{release, start, step, Reply, Row, State, Turn};
-use Event::{Release, Step};
+use common::{after, fresh, job};
+use harness::event::{release, step, Event};
+use harness::marked::{finished, finished_idle, runs, TABLE_A, TABLE_M12};
+use reference::limits::{ACTIVE, BACK, EARLY, END, HELD, NOBODY, TORN};
+use reference::limits::{COUNT_LIMIT, DEPTH, END_OF_TIME, ROOM, ROWS, STORED_TIME};
+use reference::{start, Reply, Row, State};
 
 /// The event is turned away with this number, and the state comes back equal.
 fn turned_away(state: &State, event: Event, number: u32) {
@@ -16,57 +18,57 @@ fn turned_away(state: &State, event: Event, number: u32) {
 #[test]
 fn back() {
     let state = fresh(&TABLE_A);
-    let state = after(&state, Release(2, 5), runs(2, 35));
-    turned_away(&state, Release(0, 4), BACK);
-    turned_away(&state, Step(4), BACK);
-    turned_away(&state, Step(0), BACK);
+    let state = after(&state, release(2, 5), runs(2, 35));
+    turned_away(&state, release(0, 4), BACK);
+    turned_away(&state, step(4), BACK);
+    turned_away(&state, step(0), BACK);
     // Equal is allowed: a lock at the release's own instant.
-    after(&state, Step(5), runs(2, 25));
+    after(&state, step(5), runs(2, 25));
 }
 
 #[test]
 fn end() {
     let state = fresh(&TABLE_A);
     for time in [END_OF_TIME, END_OF_TIME + 1, u64::MAX] {
-        turned_away(&state, Release(0, time), END);
-        turned_away(&state, Step(time), END);
+        turned_away(&state, release(0, time), END);
+        turned_away(&state, step(time), END);
     }
     let last = END_OF_TIME - 1;
-    let state = after(&state, Release(0, last), runs(0, last + 10));
-    let state = after(&state, Step(last), Reply::Finished(-10, Turn::Idle));
-    turned_away(&state, Release(0, last), EARLY);
+    let state = after(&state, release(0, last), runs(0, last + 10));
+    let state = after(&state, step(last), finished_idle(-10));
+    turned_away(&state, release(0, last), EARLY);
 }
 
 #[test]
 fn nobody() {
     let state = fresh(&TABLE_A);
-    turned_away(&state, Step(0), NOBODY);
+    turned_away(&state, step(0), NOBODY);
     for task in [3, 16, 31, 32, 64, u32::MAX] {
-        turned_away(&state, Release(task, 0), NOBODY);
+        turned_away(&state, release(task, 0), NOBODY);
     }
 }
 
 #[test]
 fn active() {
     let state = fresh(&TABLE_A);
-    let state = after(&state, Release(0, 0), runs(0, 10));
-    turned_away(&state, Release(0, 0), ACTIVE);
-    turned_away(&state, Release(0, 500), ACTIVE);
+    let state = after(&state, release(0, 0), runs(0, 10));
+    turned_away(&state, release(0, 0), ACTIVE);
+    turned_away(&state, release(0, 500), ACTIVE);
 }
 
 #[test]
 fn early() {
     let state = fresh(&TABLE_A);
     // A fresh task may be released at 0 although its last release is stored as 0.
-    let state = after(&state, Release(0, 0), runs(0, 10));
-    let state = after(&state, Step(3), Reply::Finished(-7, Turn::Idle));
-    turned_away(&state, Release(0, 3), EARLY);
-    turned_away(&state, Release(0, 19), EARLY);
-    let state = after(&state, Release(0, 20), runs(0, 30));
+    let state = after(&state, release(0, 0), runs(0, 10));
+    let state = after(&state, step(3), finished_idle(-7));
+    turned_away(&state, release(0, 3), EARLY);
+    turned_away(&state, release(0, 19), EARLY);
+    let state = after(&state, release(0, 20), runs(0, 30));
     // Measured between accepted releases: the refused ones didn't count.
-    let state = after(&state, Step(21), Reply::Finished(-9, Turn::Idle));
-    turned_away(&state, Release(0, 39), EARLY);
-    after(&state, Release(0, 40), runs(0, 50));
+    let state = after(&state, step(21), finished_idle(-9));
+    turned_away(&state, release(0, 39), EARLY);
+    after(&state, release(0, 40), runs(0, 50));
 }
 
 #[test]
@@ -79,37 +81,37 @@ fn held_in_a_made_up_state() {
     state.had = 0b011;
     state.rows[1] = job(30, 21, 0, 1);
     state.rows[0] = job(20, 20, 1, 0);
-    turned_away(&state, Step(1), HELD);
+    turned_away(&state, step(1), HELD);
     // BACK and END go first.
-    turned_away(&state, Step(0), BACK);
-    turned_away(&state, Step(END_OF_TIME), END);
+    turned_away(&state, step(0), BACK);
+    turned_away(&state, step(END_OF_TIME), END);
     // If the other has unlocked, the lock goes through. With another place the same state is another one.
     let mut free = state.clone();
     free.rows[1].place = 2;
-    after(&free, Step(1), runs(0, 20));
+    after(&free, step(1), runs(0, 20));
     // One's own section is no obstacle for others' steps: an unlock is never held up.
     let mut own = state.clone();
     own.rows[0].place = 1;
     own.rows[0].saved[0] = 20;
-    after(&own, Step(1), runs(0, 20));
+    after(&own, step(1), runs(0, 20));
 }
 
 #[test]
 fn the_order_of_the_checks() {
     // TORN before all else.
     let (_, zero) = start(&[]);
-    turned_away(&zero, Release(u32::MAX, u64::MAX), TORN);
-    turned_away(&zero, Step(u64::MAX), TORN);
+    turned_away(&zero, release(u32::MAX, u64::MAX), TORN);
+    turned_away(&zero, step(u64::MAX), TORN);
     let state = fresh(&TABLE_A);
-    let state = after(&state, Release(0, 9), runs(0, 19));
+    let state = after(&state, release(0, 9), runs(0, 19));
     // BACK before NOBODY and ACTIVE.
-    turned_away(&state, Release(7, 8), BACK);
-    turned_away(&state, Release(0, 8), BACK);
+    turned_away(&state, release(7, 8), BACK);
+    turned_away(&state, release(0, 8), BACK);
     // END before NOBODY and ACTIVE.
-    turned_away(&state, Release(7, END_OF_TIME), END);
-    turned_away(&state, Release(0, END_OF_TIME), END);
+    turned_away(&state, release(7, END_OF_TIME), END);
+    turned_away(&state, release(0, END_OF_TIME), END);
     // ACTIVE before EARLY.
-    turned_away(&state, Release(0, 9), ACTIVE);
+    turned_away(&state, release(0, 9), ACTIVE);
 }
 
 #[test]
@@ -117,9 +119,9 @@ fn a_refused_start_is_all_zero_and_torn() {
     let (result, state) = start(&[1, 0, 2, 2, 2, 1]);
     assert!(result.is_err());
     assert_eq!(state, State::zero());
-    assert_eq!(state.words.len(), 834);
-    turned_away(&state, Release(0, 0), TORN);
-    turned_away(&state, Step(0), TORN);
+    assert_eq!(state.words.len(), ROOM);
+    turned_away(&state, release(0, 0), TORN);
+    turned_away(&state, step(0), TORN);
 }
 
 /// A whole made-up state of table A that has something to lose: task 1 ready in its section, task 2 done.
@@ -147,9 +149,9 @@ fn torn(change: impl Fn(&mut State)) {
     change(&mut state);
     assert!(reference::torn(&state));
     for time in [0, 50, 51, END_OF_TIME, u64::MAX] {
-        turned_away(&state, Step(time), TORN);
+        turned_away(&state, step(time), TORN);
         for task in [0, 1, 3, u32::MAX] {
-            turned_away(&state, Release(task, time), TORN);
+            turned_away(&state, release(task, time), TORN);
         }
     }
 }
@@ -159,15 +161,15 @@ fn whole(change: impl Fn(&mut State)) {
     let mut state = made_up();
     change(&mut state);
     assert!(!reference::torn(&state));
-    for event in [step(&state, 50).1, release(&state, 0, 50).1] {
-        assert_ne!(event, Reply::Refused(TORN));
+    for event in [step(50), release(0, 50)] {
+        assert_ne!(event.on(&state).1, Reply::Refused(TORN));
     }
 }
 
 #[test]
 fn the_made_up_state_is_whole() {
     whole(|_| ());
-    after(&made_up(), Step(50), runs(1, 60));
+    after(&made_up(), step(50), runs(1, 60));
 }
 
 #[test]
@@ -175,7 +177,8 @@ fn torn_by_its_table() {
     for word in 0..26 {
         torn(|state| state.words[word] = u32::MAX);
     }
-    for length in (0..26).chain([27, 834, 835, 1 << 32, u64::MAX]) {
+    let room = ROOM as u64;
+    for length in (0..26).chain([27, room, room + 1, 1 << 32, u64::MAX]) {
         torn(|state| state.length = length);
     }
     // Words behind the length aren't read.
@@ -214,11 +217,11 @@ fn torn_by_a_place_past_the_plan() {
 
 #[test]
 fn torn_by_a_stored_time() {
-    for row in 0..16 {
+    for row in 0..ROWS {
         torn(|state| state.rows[row].base = STORED_TIME + 1);
         torn(|state| state.rows[row].active = u64::MAX);
         torn(|state| state.rows[row].active = STORED_TIME + 1);
-        for slot in 0..4 {
+        for slot in 0..DEPTH {
             torn(|state| state.rows[row].saved[slot] = STORED_TIME + 1);
             whole(|state| state.rows[row].saved[slot] = STORED_TIME);
         }
@@ -231,7 +234,7 @@ fn torn_by_a_stored_time() {
 #[test]
 fn torn_by_a_last_release_after_the_clock() {
     // Judged for tasks below n that have had a release: here 1 and 2.
-    for row in 0..16 {
+    for row in 0..ROWS {
         let change = |state: &mut State| state.rows[row].last = 51;
         if row == 1 || row == 2 {
             torn(change);
@@ -252,8 +255,8 @@ fn torn_by_a_last_release_after_the_clock() {
 
 #[test]
 fn torn_by_its_count() {
-    whole(|state| state.count = 1 << 44);
-    torn(|state| state.count = (1 << 44) + 1);
+    whole(|state| state.count = COUNT_LIMIT);
+    torn(|state| state.count = COUNT_LIMIT + 1);
     torn(|state| state.count = u64::MAX);
 }
 
@@ -280,11 +283,11 @@ fn torn_by_release_numbers() {
 #[test]
 fn the_count_at_its_limit_accepts_one_more() {
     let mut state = made_up();
-    state.count = 1 << 44;
-    let state = after(&state, Release(0, 50), runs(1, 60));
-    assert_eq!(state.count, (1 << 44) + 1);
-    assert_eq!(state.rows[0].number, 1 << 44);
-    turned_away(&state, Step(50), TORN);
+    state.count = COUNT_LIMIT;
+    let state = after(&state, release(0, 50), runs(1, 60));
+    assert_eq!(state.count, COUNT_LIMIT + 1);
+    assert_eq!(state.rows[0].number, COUNT_LIMIT);
+    turned_away(&state, step(50), TORN);
 }
 
 #[test]
@@ -293,9 +296,9 @@ fn an_active_deadline_above_the_base_is_no_ground() {
     state.rows[1].active = 900;
     state.rows[1].saved[0] = 800;
     // The unlock brings back what was saved; the lateness goes by the base deadline.
-    let state = after(&state, Step(50), runs(1, 800));
-    assert_eq!(state.rows[1].saved, [0; 4]);
-    after(&state, Step(61), Reply::Finished(1, Turn::Idle));
+    let state = after(&state, step(50), runs(1, 800));
+    assert_eq!(state.rows[1].saved, [0; DEPTH]);
+    after(&state, step(61), finished_idle(1));
 }
 
 #[test]
@@ -309,13 +312,13 @@ fn a_release_writes_its_whole_row() {
         saved: [5, 6, 7, 8],
         last: 9,
     };
-    let state = after(&state, Release(0, 50), runs(1, 60));
+    let state = after(&state, release(0, 50), runs(1, 60));
     let wanted = Row {
         base: 60,
         active: 60,
         number: 2,
         place: 0,
-        saved: [0; 4],
+        saved: [0; DEPTH],
         last: 50,
     };
     // The tie at 60 goes to task 1, whose release was accepted first.
@@ -339,20 +342,20 @@ fn a_lock_saves_in_the_slot_of_its_depth_and_leaves_the_others() {
         saved: [11, 22, 33, 44],
         last: 0,
     };
-    let state = after(&state, Step(3), runs(0, 12));
+    let state = after(&state, step(3), runs(0, 12));
     assert_eq!(state.rows[0].saved, [11, 30, 33, 44]);
-    let state = after(&state, Step(4), runs(0, 30));
+    let state = after(&state, step(4), runs(0, 30));
     assert_eq!(state.rows[0].saved, [11, 0, 33, 44]);
-    let state = after(&state, Step(5), runs(0, 11));
+    let state = after(&state, step(5), runs(0, 11));
     assert_eq!(state.rows[0].saved, [0, 0, 33, 44]);
-    let state = after(&state, Step(6), Reply::Finished(-34, Turn::Idle));
+    let state = after(&state, step(6), finished_idle(-34));
     assert_eq!(state.rows[0], Row::default());
 }
 
 #[test]
 fn the_next_one_runs_after_a_finish() {
     let state = fresh(&TABLE_A);
-    let state = after(&state, Release(0, 0), runs(0, 10));
-    let state = after(&state, Release(1, 0), runs(0, 10));
-    after(&state, Step(2), finished(-8, 1, 20));
+    let state = after(&state, release(0, 0), runs(0, 10));
+    let state = after(&state, release(1, 0), runs(0, 10));
+    after(&state, step(2), finished(-8, 1, 20));
 }

@@ -1,25 +1,21 @@
 //! The archive's functions, as `include/lawqendo.h` declares them. The only unsafe code of this package.
 
-use crate::answers::{Answer, ANSWER};
-use crate::calls::{Calls, Event};
-use crate::image::{Image, NUMBERS};
+use harness::answers::Answer;
+use harness::calls::Calls;
+use harness::image::Image;
+use harness::Event;
 
 extern "C" {
-    fn lawqendo_check(words: *const u32, count: usize, answer: *mut [u64; ANSWER]) -> u64;
+    fn lawqendo_check(words: *const u32, count: usize, answer: *mut Answer) -> u64;
     fn lawqendo_start(
         words: *const u32,
         count: usize,
-        image: *mut [u64; NUMBERS],
-        answer: *mut [u64; ANSWER],
+        image: *mut Image,
+        answer: *mut Answer,
     ) -> u64;
-    fn lawqendo_release(
-        image: *mut [u64; NUMBERS],
-        task: u32,
-        time: u64,
-        answer: *mut [u64; ANSWER],
-    ) -> u64;
-    fn lawqendo_step(image: *mut [u64; NUMBERS], time: u64, answer: *mut [u64; ANSWER]) -> u64;
-    fn lawqendo_verdict(words: *const u32, count: usize, answer: *mut [u64; ANSWER]) -> u64;
+    fn lawqendo_release(image: *mut Image, task: u32, time: u64, answer: *mut Answer) -> u64;
+    fn lawqendo_step(image: *mut Image, time: u64, answer: *mut Answer) -> u64;
+    fn lawqendo_verdict(words: *const u32, count: usize, answer: *mut Answer) -> u64;
 }
 
 /// The linked archive.

@@ -2,12 +2,13 @@
 
 use std::fmt::{Display, Formatter, Result as Written};
 
+use harness::answers::{self, Answer, ANSWER, NUMBER};
+use harness::calls::Calls;
+use harness::draw::states::is_wide;
+use harness::image::{self, decode, encode, Image};
+use harness::tally::ComparisonTally;
+use harness::Event;
 use reference::{Reply, State};
-
-use crate::answers::{self, Answer, ANSWER};
-use crate::calls::{second, Calls, Event};
-use crate::image::{self, decode, encode, Image, NUMBERS};
-use crate::tally::Tally;
 
 /// What a difference is reported as. Its text has a test that shows it again.
 #[derive(Debug)]
@@ -73,7 +74,7 @@ fn called(image: &Image, call: impl FnOnce(&mut Image, &mut Answer) -> u64) -> O
 /// Calls the archive, or what stands in its place, and counts what is met.
 pub struct Comparison<'a, C: Calls> {
     pub calls: &'a C,
-    pub tally: Tally,
+    pub tally: ComparisonTally,
     /// Where the present image or list comes from, for the report.
     pub origin: String,
 }
@@ -82,22 +83,23 @@ impl<'a, C: Calls> Comparison<'a, C> {
     pub fn new(calls: &'a C) -> Comparison<'a, C> {
         Comparison {
             calls,
-            tally: Tally::default(),
+            tally: ComparisonTally::default(),
             origin: String::new(),
         }
     }
 
     /// An event on an image; the state that it leads to.
-    pub fn event(&mut self, image: &mut Image, event: Event) -> Result<(State, Reply), Difference> {
+    pub fn event(&mut self, image: &mut Image, event: Event) -> Result<State, Difference> {
         let before = decode(image);
-        let (after, reply) = second(&before, event);
+        let (after, reply) = event.on(&before);
         let wanted_image = match reply {
             Reply::Refused(_) => *image,
             _ => encode(&after),
         };
         let wanted = answers::of_event(&reply);
         let outcome = called(image, |lent, answer| self.calls.event(lent, event, answer));
-        self.tally.event(&before, event, &reply, &after);
+        self.tally
+            .event(event, is_wide(image), &before, &reply, &after);
         let test = || {
             format!(
                 "    let image = {};\n    same_event(&image, Event::{event:?});\n",
@@ -112,7 +114,7 @@ impl<'a, C: Calls> Comparison<'a, C> {
             test,
         )?;
         *image = outcome.image;
-        Ok((after, reply))
+        Ok(after)
     }
 
     /// The check of a list of words, and a start from it over an image that held something else.
@@ -122,7 +124,7 @@ impl<'a, C: Calls> Comparison<'a, C> {
 
         let (found, state) = reference::start(words);
         let wanted = answers::of_check(&found);
-        let nothing = [0; NUMBERS];
+        let nothing = Image::all(0);
         let outcome = called(&nothing, |_, answer| self.calls.check(&lent, answer));
         self.tally.check(words, &found);
         self.hold("check", &outcome, &wanted, &nothing, test)?;
@@ -140,7 +142,7 @@ impl<'a, C: Calls> Comparison<'a, C> {
         let lent = words.to_vec();
         let test = || format!("    same_verdict(&{words:?});\n");
         let verdict = reference::verdict(words);
-        let nothing = [0; NUMBERS];
+        let nothing = Image::all(0);
         let outcome = called(&nothing, |_, answer| self.calls.verdict(&lent, answer));
         self.tally.verdict(words, &verdict);
         self.hold(
@@ -175,7 +177,7 @@ impl<'a, C: Calls> Comparison<'a, C> {
         test: impl Fn() -> String,
     ) -> Result<(), Difference> {
         let same = outcome.answer == *wanted
-            && outcome.returned == wanted[0]
+            && outcome.returned == wanted[NUMBER]
             && outcome.image == *wanted_image
             && outcome.fenced;
         if same {
@@ -186,13 +188,13 @@ impl<'a, C: Calls> Comparison<'a, C> {
             answers::as_text(wanted),
             answers::as_text(&outcome.answer)
         );
-        if outcome.returned != wanted[0] {
+        if outcome.returned != wanted[NUMBER] {
             text.push_str(&format!("  the call returned {}\n", outcome.returned));
         }
         if !outcome.fenced {
             text.push_str("  the call wrote beside the image or the answer\n");
         }
-        for (index, (ours, theirs)) in wanted_image.iter().zip(&outcome.image).enumerate() {
+        for (index, (ours, theirs)) in wanted_image.iter().zip(outcome.image.iter()).enumerate() {
             if ours != theirs {
                 text.push_str(&format!(
                     "  image[{index}] ({}): second program {ours}, archive {theirs}\n",

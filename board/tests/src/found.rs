@@ -1,9 +1,10 @@
 //! What a test says to the archive: the lines of a reported difference are calls of these. Each fails where the archive differs from the second program.
 
+use harness::image::Image;
+use harness::Event;
+
 use crate::archive::Archive;
-use crate::calls::Event;
 use crate::compare::Comparison;
-use crate::image::{Image, NUMBERS};
 
 /// The archive and the second program agree on this event on this image.
 pub fn same_event(image: &Image, event: Event) {
@@ -15,7 +16,7 @@ pub fn same_event(image: &Image, event: Event) {
 
 /// They agree on the check of these words and on a start from them.
 pub fn same_words(words: &[u32]) {
-    let mut image = [u64::MAX; NUMBERS];
+    let mut image = Image::all(u64::MAX);
     if let Err(difference) = Comparison::new(&Archive).words(words, &mut image) {
         panic!("{difference}");
     }

@@ -1,14 +1,16 @@
 //! Rounds of runs, made-up states and broken lists, each from a seed of its own.
 
-use reference::rng::Rng;
-use reference::verdict::{common_period, search_end};
+use harness::calls::Calls;
+use harness::draw::events::{self, Manner};
+use harness::draw::{search_cost, states, tables};
+use harness::image::{decode, encode, Image};
+use harness::rng::Rng;
+use harness::tally::ComparisonTally;
 use reference::State;
 
-use crate::calls::Calls;
 use crate::compare::{Comparison, Difference};
-use crate::draw::{events, states, tables};
-use crate::image::{decode, encode, Image, NUMBERS};
-use crate::tally::{Tally, WIDE, WIDE_ACCEPTED};
+
+const MANNER: Manner = Manner { eager: 7, pace: 3 };
 
 /// One round. The same seed gives the same round.
 pub fn round<C: Calls>(to: &mut Comparison<C>, seed: u64) -> Result<(), Difference> {
@@ -54,7 +56,7 @@ fn run<C: Calls>(
 ) -> Result<Vec<State>, Difference> {
     to.origin = format!("seed {seed} run");
     let words = tables::sound(rng);
-    let mut image = [u64::MAX; NUMBERS];
+    let mut image = Image::all(u64::MAX);
     to.words(&words, &mut image)?;
     if verdict_is_wanted(rng, &words) {
         to.verdict(&words)?;
@@ -77,16 +79,8 @@ fn play<C: Calls>(
     let mut state = decode(image);
     let table = state.table();
     for _ in 0..rng.between(1, most) {
-        let event = events::event(rng, &state, table.as_ref());
-        let wide = states::is_wide(image);
-        let (after, reply) = to.event(image, event)?;
-        if wide {
-            to.tally.add(WIDE);
-            if !matches!(reply, reference::Reply::Refused(_)) {
-                to.tally.add(WIDE_ACCEPTED);
-            }
-        }
-        state = after;
+        let event = events::event(rng, MANNER, &state, table.as_ref());
+        state = to.event(image, event)?;
     }
     Ok(())
 }
@@ -116,14 +110,7 @@ fn too_large(rng: &mut Rng, seen: &[State]) -> Image {
 
 /// The second program tries every t, so a long search is asked for rarely.
 fn verdict_is_wanted(rng: &mut Rng, words: &[u32]) -> bool {
-    let cost = reference::check(words)
-        .ok()
-        .and_then(|table| {
-            let common = common_period(&table)?;
-            Some(search_end(&table, common) * table.tasks.len() as u64)
-        })
-        .unwrap_or(0);
-    match cost {
+    match search_cost(words) {
         0..=1_000 => true,
         1_001..=20_000 => rng.chance(1, 4),
         20_001..=200_000 => rng.chance(1, 40),
@@ -132,7 +119,7 @@ fn verdict_is_wanted(rng: &mut Rng, words: &[u32]) -> bool {
 }
 
 /// Rounds from a first seed on, until there were this many events.
-pub fn events<C: Calls>(calls: &C, first: u64, count: u64) -> Result<Tally, Difference> {
+pub fn events<C: Calls>(calls: &C, first: u64, count: u64) -> Result<ComparisonTally, Difference> {
     let mut to = Comparison::new(calls);
     let mut seed = first;
     while to.tally.events < count {

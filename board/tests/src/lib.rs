@@ -4,16 +4,8 @@
 //! proved functions and a controller: the compiler's back end, the header, the way an image is laid out. So the
 //! archive is called from here as a controller calls it, with runs from fresh starts and with states that nobody would make,
 //! and each reply and each image is held to what the second program says.
-//!
-//! "01" in the comments is document 01, and the words in quotes after it are the heading of the section.
 
-pub mod answers;
 pub mod archive;
-pub mod calls;
 pub mod compare;
-pub mod draw;
 pub mod found;
-pub mod grounds;
 pub mod hammer;
-pub mod image;
-pub mod tally;

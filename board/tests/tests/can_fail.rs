@@ -1,26 +1,36 @@
 //! The comparison can fail: the second program with one slip in it stands in the archive's place, and each slip is found
 //! within the gate's events. Without a slip nothing is found.
 
-use board_tests::answers::{self, Answer, ACCEPTED, FINISHED};
-use board_tests::calls::{Calls, Event, Second};
 use board_tests::hammer;
-use board_tests::image::{at, decode, encode, Image, ACTIVE, BASE, CLOCK, COUNT, HAD, LAST};
-use board_tests::image::{FIRST_ROW, LENGTH, NUMBER, NUMBERS, PLACE, READY, ROW, SAVED};
-use reference::limits::{BACK, COUNT_LIMIT, EARLY, END_OF_TIME, ROOM, STORED_TIME, TORN};
+use harness::answers::{self, is_accepted, plain, runs, Answer, ACCEPTED, FINISHED};
+use harness::answers::{DEADLINE, NUMBER, RUNS, TASK, VALUE};
+use harness::calls::{Calls, Second};
+use harness::image::{self, at, decode, encode, Image, ACTIVE, BASE, CLOCK, COUNT, HAD, LAST};
+use harness::image::{LENGTH, PLACE, READY, SAVED};
+use harness::Event;
+use reference::limits::{
+    BACK, COUNT_LIMIT, EARLY, END_OF_TIME, HELD, LATE, ROOM, STORED_TIME, TORN,
+};
 use reference::{running, Step};
 
-/// The second program, and what is done wrong: given the image before the event, the event, and what was right.
+/// What is done wrong with an event: given the image before it, the event, and what was right.
+type Wrong = Box<dyn Fn(&Image, Event, &mut Image, &mut Answer)>;
+
+/// The second program, and what is done wrong in its calls.
 struct Slip {
-    event: fn(before: &Image, event: Event, image: &mut Image, answer: &mut Answer),
-    start: fn(words: &[u32], image: &mut Image, answer: &mut Answer),
-    verdict: fn(words: &[u32], answer: &mut Answer),
+    event: Wrong,
+    start: fn(image: &mut Image, answer: &mut Answer),
+    verdict: fn(answer: &mut Answer),
 }
 
-const RIGHT: Slip = Slip {
-    event: |_, _, _, _| {},
-    start: |_, _, _| {},
-    verdict: |_, _| {},
-};
+/// Nothing is done wrong.
+fn right() -> Slip {
+    Slip {
+        event: Box::new(|_, _, _, _| {}),
+        start: |_, _| {},
+        verdict: |_| {},
+    }
+}
 
 impl Calls for Slip {
     fn check(&self, words: &[u32], answer: &mut Answer) -> u64 {
@@ -29,21 +39,21 @@ impl Calls for Slip {
 
     fn start(&self, words: &[u32], image: &mut Image, answer: &mut Answer) -> u64 {
         Second.start(words, image, answer);
-        (self.start)(words, image, answer);
-        answer[0]
-    }
-
-    fn verdict(&self, words: &[u32], answer: &mut Answer) -> u64 {
-        Second.verdict(words, answer);
-        (self.verdict)(words, answer);
-        answer[0]
+        (self.start)(image, answer);
+        answer[NUMBER]
     }
 
     fn event(&self, image: &mut Image, event: Event, answer: &mut Answer) -> u64 {
         let before = *image;
         Second.event(image, event, answer);
         (self.event)(&before, event, image, answer);
-        answer[0]
+        answer[NUMBER]
+    }
+
+    fn verdict(&self, words: &[u32], answer: &mut Answer) -> u64 {
+        Second.verdict(words, answer);
+        (self.verdict)(answer);
+        answer[NUMBER]
     }
 }
 
@@ -51,36 +61,30 @@ fn is_found(slip: &Slip) -> bool {
     hammer::events(slip, 1, 60_000).is_err()
 }
 
-fn found(event: fn(&Image, Event, &mut Image, &mut Answer)) {
-    assert!(is_found(&Slip { event, ..RIGHT }));
+fn found(event: impl Fn(&Image, Event, &mut Image, &mut Answer) + 'static) {
+    let event = Box::new(event);
+    assert!(is_found(&Slip { event, ..right() }));
 }
 
-fn accepted(answer: &Answer) -> bool {
-    answer[0] == ACCEPTED || answer[0] == FINISHED
-}
-
-fn torn(before: &Image, image: &mut Image, answer: &mut Answer) {
+/// Refuses the event.
+fn refuse(number: u32, before: &Image, image: &mut Image, answer: &mut Answer) {
     *image = *before;
-    *answer = [u64::from(TORN), 0, 0, 0, 0];
-}
-
-fn any_row(image: &Image, test: impl Fn(&[u64]) -> bool) -> bool {
-    image[FIRST_ROW..].chunks_exact(ROW).any(test)
+    *answer = plain(u64::from(number), 0);
 }
 
 #[test]
 fn no_slip() {
-    assert!(!is_found(&RIGHT));
+    assert!(!is_found(&right()));
 }
 
 #[test]
 fn ties_broken_by_task_number() {
     found(|_, _, image, answer| {
-        if accepted(answer) && answer[2] == 1 {
-            for task in 0..answer[3] {
+        if is_accepted(answer) && answer[RUNS] == 1 {
+            for task in 0..answer[TASK] {
                 let ready = image[READY] >> task & 1 == 1;
-                if ready && image[at(task as usize, ACTIVE)] == answer[4] {
-                    answer[3] = task;
+                if ready && image[at(task as usize, ACTIVE)] == answer[DEADLINE] {
+                    answer[TASK] = task;
                     break;
                 }
             }
@@ -99,7 +103,7 @@ fn mover(before: &Image) -> Option<(usize, Option<Step>)> {
 #[test]
 fn unlock_goes_back_to_the_base() {
     found(|before, event, image, answer| {
-        if let (Event::Step { .. }, true) = (event, accepted(answer)) {
+        if let (Event::Step { .. }, true) = (event, is_accepted(answer)) {
             if let Some((task, Some(Step::Unlock))) = mover(before) {
                 image[at(task, ACTIVE)] = image[at(task, BASE)];
             }
@@ -110,7 +114,7 @@ fn unlock_goes_back_to_the_base() {
 #[test]
 fn an_unlock_keeps_its_slot() {
     found(|before, event, image, answer| {
-        if let (Event::Step { .. }, true) = (event, accepted(answer)) {
+        if let (Event::Step { .. }, true) = (event, is_accepted(answer)) {
             if let Some((task, Some(Step::Unlock))) = mover(before) {
                 let saved = at(task, SAVED)..at(task, LAST);
                 image[saved.clone()].copy_from_slice(&before[saved]);
@@ -122,8 +126,8 @@ fn an_unlock_keeps_its_slot() {
 #[test]
 fn lateness_as_a_distance() {
     found(|_, _, _, answer| {
-        if answer[0] == FINISHED {
-            answer[1] = (answer[1] as i64).unsigned_abs();
+        if answer[NUMBER] == FINISHED {
+            answer[VALUE] = (answer[VALUE] as i64).unsigned_abs();
         }
     });
 }
@@ -131,7 +135,7 @@ fn lateness_as_a_distance() {
 #[test]
 fn lowering_to_the_floor_alone() {
     found(|before, event, image, answer| {
-        if let (Event::Step { .. }, true) = (event, accepted(answer)) {
+        if let (Event::Step { .. }, true) = (event, is_accepted(answer)) {
             if let Some((task, Some(Step::Lock(section)))) = mover(before) {
                 let table = decode(before).table().expect("an accepted event");
                 let floor = u64::from(table.floor(section.resource).unwrap_or(0));
@@ -144,11 +148,11 @@ fn lowering_to_the_floor_alone() {
 #[test]
 fn held_is_never_said() {
     found(|before, event, image, answer| {
-        if let (Event::Step { time }, 12) = (event, answer[0]) {
+        if answer[NUMBER] == u64::from(HELD) {
             let (task, _) = mover(before).expect("HELD has a running job");
             image[at(task, PLACE)] += 1;
-            image[CLOCK] = time;
-            *answer = [ACCEPTED, 0, 1, task as u64, image[at(task, ACTIVE)]];
+            image[CLOCK] = event.time();
+            *answer = runs(ACCEPTED, 0, task as u64, image[at(task, ACTIVE)]);
         }
     });
 }
@@ -156,8 +160,8 @@ fn held_is_never_said() {
 #[test]
 fn a_refused_event_sets_the_clock() {
     found(|_, event, image, answer| {
-        if let (Event::Release { time, .. }, true) = (event, answer[0] == u64::from(EARLY)) {
-            image[CLOCK] = time;
+        if answer[NUMBER] == u64::from(EARLY) {
+            image[CLOCK] = event.time();
         }
     });
 }
@@ -165,7 +169,7 @@ fn a_refused_event_sets_the_clock() {
 #[test]
 fn a_refused_event_cleans_the_image() {
     found(|before, _, image, answer| {
-        if !accepted(answer) {
+        if !is_accepted(answer) {
             *image = encode(&decode(before));
         }
     });
@@ -174,7 +178,7 @@ fn a_refused_event_cleans_the_image() {
 #[test]
 fn an_accepted_event_leaves_a_number_too_large() {
     found(|before, _, image, answer| {
-        if accepted(answer) {
+        if is_accepted(answer) {
             image[HAD] |= before[HAD] >> 32 << 32;
         }
     });
@@ -183,7 +187,7 @@ fn an_accepted_event_leaves_a_number_too_large() {
 #[test]
 fn a_finish_keeps_the_saved_deadlines() {
     found(|before, _, image, answer| {
-        if answer[0] == FINISHED {
+        if answer[NUMBER] == FINISHED {
             let (task, _) = mover(before).expect("a finish has a running job");
             let saved = at(task, SAVED)..at(task, LAST);
             image[saved.clone()].copy_from_slice(&before[saved]);
@@ -194,7 +198,7 @@ fn a_finish_keeps_the_saved_deadlines() {
 #[test]
 fn a_release_keeps_the_saved_deadlines() {
     found(|before, event, image, answer| {
-        if let (Event::Release { task, .. }, true) = (event, accepted(answer)) {
+        if let (Event::Release { task, .. }, true) = (event, is_accepted(answer)) {
             let saved = at(task as usize, SAVED)..at(task as usize, LAST);
             image[saved.clone()].copy_from_slice(&before[saved]);
         }
@@ -204,9 +208,10 @@ fn a_release_keeps_the_saved_deadlines() {
 #[test]
 fn the_words_behind_the_length_are_cleared() {
     found(|_, _, image, answer| {
-        if accepted(answer) {
-            let behind = image[LENGTH].div_ceil(2) as usize;
-            image[behind..LENGTH].fill(0);
+        if is_accepted(answer) {
+            let mut words = image.words();
+            words.truncate(image[LENGTH] as usize);
+            image.set_words(&words);
         }
     });
 }
@@ -214,47 +219,20 @@ fn the_words_behind_the_length_are_cleared() {
 #[test]
 fn an_equal_time_is_back() {
     found(|before, event, image, answer| {
-        let (Event::Release { time, .. } | Event::Step { time }) = event;
-        if accepted(answer) && time == before[CLOCK] {
-            *image = *before;
-            *answer = [u64::from(BACK), 0, 0, 0, 0];
+        if is_accepted(answer) && event.time() == before[CLOCK] {
+            refuse(BACK, before, image, answer);
         }
     });
 }
 
 #[test]
 fn a_stored_time_at_the_limit_is_torn() {
-    for field in [BASE, ACTIVE, SAVED, SAVED + 1, SAVED + 2, SAVED + 3, LAST] {
-        let slip = AtTheLimit { field };
-        assert!(hammer::events(&slip, 1, 60_000).is_err(), "field {field}");
-    }
-}
-
-/// The right answers, but a stored time right at the limit counts as torn in one field.
-struct AtTheLimit {
-    field: usize,
-}
-
-impl Calls for AtTheLimit {
-    fn check(&self, words: &[u32], answer: &mut Answer) -> u64 {
-        Second.check(words, answer)
-    }
-
-    fn start(&self, words: &[u32], image: &mut Image, answer: &mut Answer) -> u64 {
-        Second.start(words, image, answer)
-    }
-
-    fn verdict(&self, words: &[u32], answer: &mut Answer) -> u64 {
-        Second.verdict(words, answer)
-    }
-
-    fn event(&self, image: &mut Image, event: Event, answer: &mut Answer) -> u64 {
-        let before = *image;
-        Second.event(image, event, answer);
-        if any_row(&before, |row| row[self.field] == STORED_TIME) {
-            torn(&before, image, answer);
-        }
-        answer[0]
+    for field in [BASE, ACTIVE, LAST].into_iter().chain(SAVED..LAST) {
+        found(move |before, _, image, answer| {
+            if before.rows().any(|row| row[field] == STORED_TIME) {
+                refuse(TORN, before, image, answer);
+            }
+        });
     }
 }
 
@@ -262,7 +240,7 @@ impl Calls for AtTheLimit {
 fn a_count_at_the_limit_is_torn() {
     found(|before, _, image, answer| {
         if before[COUNT] == COUNT_LIMIT {
-            torn(before, image, answer);
+            refuse(TORN, before, image, answer);
         }
     });
 }
@@ -271,7 +249,7 @@ fn a_count_at_the_limit_is_torn() {
 fn the_last_tick_is_torn() {
     found(|before, _, image, answer| {
         if before[CLOCK] == END_OF_TIME - 1 {
-            torn(before, image, answer);
+            refuse(TORN, before, image, answer);
         }
     });
 }
@@ -280,7 +258,7 @@ fn the_last_tick_is_torn() {
 fn the_longest_table_is_torn() {
     found(|before, _, image, answer| {
         if before[LENGTH] == ROOM as u64 {
-            torn(before, image, answer);
+            refuse(TORN, before, image, answer);
         }
     });
 }
@@ -300,8 +278,9 @@ fn a_large_length_is_read_by_its_low_half() {
 #[test]
 fn a_last_release_right_at_the_clock_is_torn() {
     found(|before, _, image, answer| {
-        if any_row(before, |row| row[LAST] == before[CLOCK] && row[LAST] > 0) {
-            torn(before, image, answer);
+        let last = |row: &[u64]| row[LAST] == before[CLOCK] && row[LAST] > 0;
+        if before.rows().any(last) {
+            refuse(TORN, before, image, answer);
         }
     });
 }
@@ -309,8 +288,9 @@ fn a_last_release_right_at_the_clock_is_torn() {
 #[test]
 fn a_number_right_below_the_count_is_torn() {
     found(|before, _, image, answer| {
-        if any_row(before, |row| row[NUMBER] + 1 == before[COUNT]) && before[READY] != 0 {
-            torn(before, image, answer);
+        let last = |row: &[u64]| row[image::NUMBER] + 1 == before[COUNT];
+        if before.rows().any(last) && before[READY] != 0 {
+            refuse(TORN, before, image, answer);
         }
     });
 }
@@ -318,8 +298,8 @@ fn a_number_right_below_the_count_is_torn() {
 #[test]
 fn an_answer_keeps_what_it_had() {
     found(|_, _, _, answer| {
-        if !accepted(answer) {
-            answer[4] = 1;
+        if !is_accepted(answer) {
+            answer[DEADLINE] = 1;
         }
     });
 }
@@ -327,12 +307,12 @@ fn an_answer_keeps_what_it_had() {
 #[test]
 fn a_start_leaves_words_behind() {
     let slip = Slip {
-        start: |_, image, _| {
+        start: |image, _| {
             if image[LENGTH] < ROOM as u64 {
                 image[LENGTH - 1] = 1;
             }
         },
-        ..RIGHT
+        ..right()
     };
     assert!(is_found(&slip));
 }
@@ -340,12 +320,12 @@ fn a_start_leaves_words_behind() {
 #[test]
 fn a_refused_start_leaves_the_image() {
     let slip = Slip {
-        start: |_, image, answer| {
-            if answer[0] != ACCEPTED {
-                *image = [1; NUMBERS];
+        start: |image, answer| {
+            if answer[NUMBER] != ACCEPTED {
+                *image = Image::all(1);
             }
         },
-        ..RIGHT
+        ..right()
     };
     assert!(is_found(&slip));
 }
@@ -353,12 +333,12 @@ fn a_refused_start_leaves_the_image() {
 #[test]
 fn a_late_verdict_without_its_moment() {
     let slip = Slip {
-        verdict: |_, answer| {
-            if answer[0] == 21 {
-                answer[1] += 1;
+        verdict: |answer| {
+            if answer[NUMBER] == u64::from(LATE) {
+                answer[VALUE] += 1;
             }
         },
-        ..RIGHT
+        ..right()
     };
     assert!(is_found(&slip));
 }
@@ -366,12 +346,12 @@ fn a_late_verdict_without_its_moment() {
 #[test]
 fn a_difference_can_be_pasted() {
     let slip = Slip {
-        event: |_, _, _, answer| {
-            if answer[0] == FINISHED {
-                answer[1] = 7;
+        event: Box::new(|_, _, _, answer| {
+            if answer[NUMBER] == FINISHED {
+                answer[VALUE] = 7;
             }
-        },
-        ..RIGHT
+        }),
+        ..right()
     };
     let text = match hammer::events(&slip, 1, 60_000) {
         Ok(_) => panic!("no difference"),
@@ -387,5 +367,5 @@ fn a_difference_can_be_pasted() {
     ] {
         assert!(text.contains(part), "{part} isn't in\n{text}");
     }
-    assert!(answers::as_text(&[64, u64::MAX, 0, 0, 0]).contains("lateness -1"));
+    assert!(answers::as_text(&plain(FINISHED, u64::MAX)).contains("lateness -1"));
 }

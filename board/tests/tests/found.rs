@@ -1,12 +1,9 @@
 //! Places where the archive and the second program might differ, and where a reported difference is pasted.
 
-use board_tests::calls::Event;
 use board_tests::found::{same_event, same_verdict, same_words};
-use board_tests::image::picture;
-
-const TABLE_A: [u32; 26] = [
-    3, 1, 20, 10, 3, 0, 30, 20, 9, 2, 1, 0, 1, 2, 0, 0, 40, 30, 10, 2, 1, 0, 4, 2, 0, 0,
-];
+use harness::image::picture;
+use harness::marked::TABLE_A;
+use harness::Event;
 
 /// Task 1 stands before its lock and runs; task 2 holds the resource. No run leads here.
 #[test]

@@ -1,22 +1,20 @@
 //! Tables by lot: sound ones, careless ones, and sound ones with one word spoiled, cut or added.
 
+use reference::limits::{DEPTH, RESOURCES, STEPS, STEP_WORDS, TABLE_HEAD, TASKS, TASK_HEAD, TICKS};
+
+use crate::marked::{table_a_with, LENGTH_OF_2, TABLE_A, TABLE_M12};
 use crate::rng::Rng;
+use crate::sets::BITS;
+
+/// M5's table.
+const TABLE_M5: [u32; 26] = table_a_with(LENGTH_OF_2, 9);
 
 /// Tables that document 01 writes out, and some whose verdict is a close one. A number of them is nudged now and
 /// then.
 const KNOWN: [&[u32]; 9] = [
-    // Table A.
-    &[
-        3, 1, 20, 10, 3, 0, 30, 20, 9, 2, 1, 0, 1, 2, 0, 0, 40, 30, 10, 2, 1, 0, 4, 2, 0, 0,
-    ],
-    // M5.
-    &[
-        3, 1, 20, 10, 3, 0, 30, 20, 9, 2, 1, 0, 1, 2, 0, 0, 40, 30, 10, 2, 1, 0, 9, 2, 0, 0,
-    ],
-    // M12.
-    &[
-        3, 1, 100, 20, 5, 2, 1, 0, 2, 2, 0, 0, 100, 30, 5, 2, 1, 0, 2, 2, 0, 0, 100, 5, 5, 0,
-    ],
+    &TABLE_A,
+    &TABLE_M5,
+    &TABLE_M12,
     // M6.
     &[1, 0, 2, 2, 2, 0],
     // M8.
@@ -41,23 +39,75 @@ const PERIODS: [&[u32]; 8] = [
     &[16, 32, 64, 128],
 ];
 
-/// A table: mostly sound, in one case out of four not.
+/// A table for a script: mostly sound, in one case out of four not.
 pub fn table(rng: &mut Rng) -> Vec<u32> {
     match rng.between(0, 99) {
         0..=16 => lively(rng),
         17..=39 => diving(rng),
         40..=53 => roomy(rng),
         54..=61 => nudged(rng),
-        62..=63 => full(rng),
+        62..=63 => overfull(rng),
         64..=66 => far(rng),
         67..=72 => long(rng),
-        73..=79 => careless(rng),
-        80..=81 => {
-            let count = rng.index(9);
-            (0..count).map(|_| odd_word(rng)).collect()
-        }
+        73..=79 => careless(rng, 0),
+        80..=81 => odd_words(rng, 9),
         _ => spoiled(rng),
     }
+}
+
+/// A table that passes the check, for a state.
+pub fn sound(rng: &mut Rng) -> Vec<u32> {
+    match rng.between(0, 19) {
+        0..=7 => lively(rng),
+        8..=13 => diving(rng),
+        14 => full(rng),
+        15..=16 => far(rng),
+        17..=18 => longest(rng),
+        _ => vec![1, rng.word(0, RESOURCES), 5, 5, 2, 0],
+    }
+}
+
+/// A list of words for the check: mostly broken, on each ground.
+pub fn any(rng: &mut Rng) -> Vec<u32> {
+    match rng.between(0, 19) {
+        0..=2 => sound(rng),
+        3 => {
+            // n or m.
+            let mut words = sound(rng);
+            let at = rng.index(TABLE_HEAD);
+            words[at] = too_small_or_large(rng);
+            words
+        }
+        4..=12 => spoiled(rng),
+        13..=16 => careless(rng, 4),
+        17 => too_deep(rng),
+        18 => odd_words(rng, 12),
+        _ => {
+            // Longer than the room, and sometimes with an odd word within it.
+            let mut words = longest(rng);
+            let at = rng.index(words.len());
+            words.extend(odd_words(rng, 40));
+            if rng.chance(1, 4) {
+                words[at] = odd_word(rng);
+            }
+            words
+        }
+    }
+}
+
+/// A table whose verdict is a close one, or LONG, or around the common multiple where it becomes so.
+pub fn timed(rng: &mut Rng) -> Vec<u32> {
+    match rng.between(0, 9) {
+        0..=5 => roomy(rng),
+        6..=7 => nudged(rng),
+        _ => long(rng),
+    }
+}
+
+/// Appends a task: T, D and C, and then s and the steps, which are its plan.
+fn put_task(words: &mut Vec<u32>, ticks: [u32; 3], plan: &[u32]) {
+    words.extend(ticks);
+    words.extend(plan);
 }
 
 /// Made for running: few different deadlines, so that ties happen, and nested sections.
@@ -80,8 +130,8 @@ fn lively(rng: &mut Rng) -> Vec<u32> {
     for _ in 0..n {
         let cost = rng.word(1, 9);
         let steps = rng.word(0, 12);
-        words.extend([rng.pick(periods), rng.pick(&deadlines), cost]);
-        words.extend(plan(rng, m, cost, steps));
+        let ticks = [rng.pick(periods), rng.pick(&deadlines), cost];
+        put_task(&mut words, ticks, &plan(rng, m, cost, steps));
     }
     words
 }
@@ -98,15 +148,17 @@ fn diving(rng: &mut Rng) -> Vec<u32> {
         let deadline = base * rng.pick(&[1, 2, 3, 5]) + rng.word(0, 1);
         let cost = rng.word(1, 5);
         let length = rng.word(1, cost);
-        let mut task = vec![rng.pick(periods), deadline, cost];
-        task.extend([2, 1, resource, length, 2, 0, 0]);
+        let mut task = Vec::new();
+        let ticks = [rng.pick(periods), deadline, cost];
+        put_task(&mut task, ticks, &[2, 1, resource, length, 2, 0, 0]);
         tasks.push(task);
     }
     for _ in m..n {
         let cost = rng.word(2, 20);
         let deadline = base * rng.pick(&[6, 10, 30]);
-        let mut task = vec![rng.pick(periods), deadline, cost];
-        task.extend(plan(rng, m, cost, 14));
+        let mut task = Vec::new();
+        let ticks = [rng.pick(periods), deadline, cost];
+        put_task(&mut task, ticks, &plan(rng, m, cost, 14));
         tasks.push(task);
     }
     let mut words = vec![n, m];
@@ -129,8 +181,8 @@ fn roomy(rng: &mut Rng) -> Vec<u32> {
         let most = share + rng.word(0, 1);
         let cost = rng.word(share.div_ceil(3), most);
         let deadline = rng.word((period / 2).max(1), period * 2);
-        words.extend([period, deadline, cost]);
-        words.extend(plan(rng, m, cost, 4));
+        let ticks = [period, deadline, cost];
+        put_task(&mut words, ticks, &plan(rng, m, cost, 4));
     }
     words
 }
@@ -150,21 +202,52 @@ fn nudged(rng: &mut Rng) -> Vec<u32> {
     words
 }
 
-/// The largest shapes: up to sixteen tasks, resources and steps.
+/// The largest shapes: as many tasks, resources and steps as a table may have, or about so many.
 fn full(rng: &mut Rng) -> Vec<u32> {
-    let n = rng.word(14, 16);
-    let m = rng.word(8, 16);
+    let n = rng.word(TASKS - 2, TASKS);
+    let m = rng.word(RESOURCES / 2, RESOURCES);
     let mut words = vec![n, m];
     for _ in 0..n {
         let cost = rng.word(1, 8);
-        words.extend([rng.pick(&[64, 128]), rng.pick(&[9, 10, 60, 64]), cost]);
-        let steps = rng.pick(&[8, 16]);
-        words.extend(plan(rng, m, cost, steps));
+        let ticks = [rng.pick(&[64, 128]), rng.pick(&[9, 10, 60, 64]), cost];
+        let steps = rng.pick(&[STEPS / 2, STEPS]);
+        put_task(&mut words, ticks, &plan(rng, m, cost, steps));
     }
-    // Words after the longest table, and beyond the room for one.
+    words
+}
+
+/// The same, sometimes with words after the last task, and beyond the room for them.
+fn overfull(rng: &mut Rng) -> Vec<u32> {
+    let mut words = full(rng);
     if rng.chance(1, 6) {
         let count = rng.pick(&[1, 2, 40]);
         words.extend((0..count).map(|_| odd_word(rng)).collect::<Vec<u32>>());
+    }
+    words
+}
+
+/// The longest table: every task with all the steps that it may have.
+fn longest(rng: &mut Rng) -> Vec<u32> {
+    let m = rng.word(2, RESOURCES);
+    let mut words = vec![TASKS, m];
+    for _ in 0..TASKS {
+        let cost = rng.word(4, 40);
+        let mut plan = vec![STEPS];
+        for _ in 0..STEPS / 4 {
+            // Two locks and two unlocks, one in the other or one after the other.
+            let outer = rng.word(0, m - 1);
+            let inner = (outer + rng.word(1, m - 1)) % m;
+            let length = rng.word(2, cost);
+            let inside = rng.word(1, length);
+            plan.extend([1, outer, length]);
+            if rng.chance(2, 3) {
+                plan.extend([1, inner, inside, 2, 0, 0, 2, 0, 0]);
+            } else {
+                plan.extend([2, 0, 0, 1, inner, inside, 2, 0, 0]);
+            }
+        }
+        let ticks = [rng.pick(&[100, 200, 400]), rng.word(20, 400), cost];
+        put_task(&mut words, ticks, &plan);
     }
     words
 }
@@ -174,7 +257,7 @@ fn far(rng: &mut Rng) -> Vec<u32> {
     let n = rng.word(1, 3);
     let m = rng.word(0, 2);
     let mut words = vec![n, m];
-    let ends = [1, 2, 3, 999_999, 1_000_000, 1_000_000];
+    let ends = [1, 2, 3, TICKS - 1, TICKS, TICKS];
     let period = rng.pick(&ends);
     for _ in 0..n {
         let cost = rng.pick(&ends);
@@ -183,8 +266,8 @@ fn far(rng: &mut Rng) -> Vec<u32> {
         } else {
             period
         };
-        words.extend([period, rng.pick(&ends), cost]);
-        words.extend(plan(rng, m, cost, 4));
+        let ticks = [period, rng.pick(&ends), cost];
+        put_task(&mut words, ticks, &plan(rng, m, cost, 4));
     }
     words
 }
@@ -197,26 +280,29 @@ fn long(rng: &mut Rng) -> Vec<u32> {
     for _ in 0..n {
         let cost = rng.word(1, 30);
         let period = rng.pick(&[97, 101, 103, 1000, 1001, 4096, 15_625, 333_333]);
-        words.extend([period, rng.word(1, 2000), cost]);
-        words.extend(plan(rng, m, cost, 4));
+        let ticks = [period, rng.word(1, 2000), cost];
+        put_task(&mut words, ticks, &plan(rng, m, cost, 4));
     }
     words
 }
 
-/// Steps whose own words are sound but which are put together carelessly, so that NEST is met on each ground.
-fn careless(rng: &mut Rng) -> Vec<u32> {
+/// Steps that are put together carelessly, so that NEST is met on each ground. Of twenty steps `broken` are none by their own words, so
+/// that STEP is met too.
+fn careless(rng: &mut Rng, broken: u64) -> Vec<u32> {
     let n = rng.word(1, 3);
-    let m = rng.word(1, 8);
+    let m = rng.word(1, RESOURCES / 2);
     let mut words = vec![n, m];
     for _ in 0..n {
         let cost = rng.word(1, 12);
-        words.extend([rng.word(1, 50), rng.word(1, 50), cost]);
-        let count = rng.word(0, 8);
-        words.push(count);
+        let ticks = [rng.word(1, 50), rng.word(1, 50), cost];
+        let count = rng.word(0, STEPS / 2);
+        let mut plan = vec![count];
         let falling = rng.chance(1, 2);
         let mut length = cost;
         for k in 0..count {
-            if rng.chance(if k == 0 { 19 } else { 13 }, 20) {
+            if broken > 0 && rng.chance(broken, 20) {
+                plan.extend(no_step(rng, m, cost));
+            } else if rng.chance(if k == 0 { 19 } else { 13 }, 20) {
                 if !falling {
                     length = rng.word(1, cost);
                 } else if length > 1 && rng.chance(1, 3) {
@@ -227,12 +313,41 @@ fn careless(rng: &mut Rng) -> Vec<u32> {
                 } else {
                     rng.word(0, m - 1)
                 };
-                words.extend([1, resource, length]);
+                plan.extend([1, resource, length]);
             } else {
-                words.extend([2, 0, 0]);
+                plan.extend([2, 0, 0]);
             }
         }
+        put_task(&mut words, ticks, &plan);
     }
+    words
+}
+
+/// A step's words that are no step: one for each ground of STEP.
+fn no_step(rng: &mut Rng, m: u32, cost: u32) -> [u32; STEP_WORDS] {
+    let kind = rng.pick(&[0, 3, u32::MAX]);
+    rng.pick(&[
+        [kind, 0, 0],
+        [2, 1, 0],
+        [2, 0, 1],
+        [1, m, 1],
+        [1, 0, 0],
+        [1, 0, cost + 1],
+    ])
+}
+
+/// A plan that only dives, until it holds one section too many.
+fn too_deep(rng: &mut Rng) -> Vec<u32> {
+    let most = DEPTH as u32 + 1;
+    let mut words = vec![1, rng.word(most, RESOURCES)];
+    let mut length = rng.word(1, 12);
+    let ticks = [rng.word(1, 50), rng.word(1, 50), length];
+    let mut plan = vec![most];
+    for resource in 0..most {
+        length = rng.word(length.div_ceil(2), length);
+        plan.extend([1, resource, length]);
+    }
+    put_task(&mut words, ticks, &plan);
     words
 }
 
@@ -251,7 +366,7 @@ fn spoiled(rng: &mut Rng) -> Vec<u32> {
         3..=5 => {
             let head = rng.pick(&heads(&words));
             words[head] = if rng.chance(1, 2) {
-                rng.pick(&[0, 17, 1_000_001, u32::MAX])
+                too_small_or_large(rng)
             } else {
                 odd_word(rng)
             };
@@ -267,18 +382,34 @@ fn spoiled(rng: &mut Rng) -> Vec<u32> {
 }
 
 /// Where the words n, m, and T, D, C and s of each task stand in a sound table.
-fn heads(words: &[u32]) -> Vec<usize> {
-    let mut places = vec![0, 1];
-    let mut at = 2;
-    while at + 3 < words.len() {
-        places.extend(at..at + 4);
-        at += 4 + 3 * words[at + 3] as usize;
+pub fn heads(words: &[u32]) -> Vec<usize> {
+    let mut places: Vec<usize> = (0..TABLE_HEAD).collect();
+    let mut at = TABLE_HEAD;
+    while at + TASK_HEAD <= words.len() {
+        places.extend(at..at + TASK_HEAD);
+        at = end_of_plan(words, at);
     }
     places
 }
 
+/// The index after the plan of the task whose first word this is.
+pub fn end_of_plan(words: &[u32], task: usize) -> usize {
+    task + TASK_HEAD + STEP_WORDS * words[task + TASK_HEAD - 1] as usize
+}
+
+/// A word that is right in no head, or in few.
+fn too_small_or_large(rng: &mut Rng) -> u32 {
+    rng.pick(&[0, TASKS + 1, TICKS + 1, u32::MAX])
+}
+
+/// Less than `most` words that are likely to be wrong.
+fn odd_words(rng: &mut Rng, most: usize) -> Vec<u32> {
+    let count = rng.index(most);
+    (0..count).map(|_| odd_word(rng)).collect()
+}
+
 /// A word that is likely to be wrong where it stands.
-fn odd_word(rng: &mut Rng) -> u32 {
+pub fn odd_word(rng: &mut Rng) -> u32 {
     let any = rng.bits() as u32;
     rng.pick(&[
         0,
@@ -289,14 +420,14 @@ fn odd_word(rng: &mut Rng) -> u32 {
         4,
         5,
         9,
-        15,
-        16,
-        17,
-        31,
-        32,
-        999_999,
-        1_000_000,
-        1_000_001,
+        TASKS - 1,
+        TASKS,
+        TASKS + 1,
+        BITS - 1,
+        BITS,
+        TICKS - 1,
+        TICKS,
+        TICKS + 1,
         1 << 31,
         u32::MAX,
         any,
@@ -307,14 +438,14 @@ fn odd_word(rng: &mut Rng) -> u32 {
 fn plan(rng: &mut Rng, m: u32, cost: u32, most: u32) -> Vec<u32> {
     // Some plans have one section after the other, some dive.
     let eager = rng.between(3, 9);
-    let mut steps: Vec<[u32; 3]> = Vec::new();
+    let mut steps: Vec<[u32; STEP_WORDS]> = Vec::new();
     let mut held: Vec<(u32, u32)> = Vec::new();
     loop {
         let left = most as usize - steps.len();
         let free: Vec<u32> = (0..m)
             .filter(|r| held.iter().all(|(resource, _)| resource != r))
             .collect();
-        let may_lock = left >= held.len() + 2 && held.len() < 4 && !free.is_empty();
+        let may_lock = left >= held.len() + 2 && held.len() < DEPTH && !free.is_empty();
         if may_lock && rng.chance(eager, 10) {
             let around = held.last().map_or(cost, |(_, length)| *length);
             let length = if rng.chance(1, 2) {

@@ -1,13 +1,14 @@
 //! States that nobody would make.
 
-use reference::limits::{COUNT_LIMIT, END_OF_TIME, ROOM, ROWS, STORED_TIME};
-use reference::rng::Rng;
+use reference::limits::{COUNT_LIMIT, DEPTH, END_OF_TIME, ROOM, ROWS, STEPS, STORED_TIME, TASKS};
 use reference::state::contains;
 use reference::{check, Row, State, Step, Table};
 
 use super::tables;
-use crate::grounds::TORN_GROUNDS;
-use crate::image::{at, Image, FIRST_ROW, HAD, NUMBERS, PACKED, PLACE, READY, ROW};
+use crate::image::{at, Image, HAD, LENGTH, PLACE, READY};
+use crate::rng::Rng;
+use crate::sets::{all_below, BITS};
+use crate::tally::grounds::TornGround;
 
 /// A state of the second program with this table and nothing else.
 fn with_table(words: &[u32]) -> State {
@@ -37,12 +38,12 @@ pub fn whole(rng: &mut Rng) -> (State, Table) {
     };
     state.count = match rng.between(0, 9) {
         0..=4 => rng.between(n as u64, n as u64 + 4),
-        5..=6 => rng.between(16, 1000),
+        5..=6 => rng.between(ROWS as u64, 1000),
         7 => COUNT_LIMIT,
         8 => COUNT_LIMIT - rng.between(0, 3),
-        _ => rng.between(16, COUNT_LIMIT),
+        _ => rng.between(ROWS as u64, COUNT_LIMIT),
     };
-    let below = (1u64 << n) as u32 - 1;
+    let below = all_below(n);
     state.ready = match rng.between(0, 3) {
         0 => below,
         1 => rng.bits() as u32 & below,
@@ -81,19 +82,20 @@ pub fn whole(rng: &mut Rng) -> (State, Table) {
     (state, table)
 }
 
-/// Sixteen numbers below the count, as far apart as they can be; mostly the last ones given.
+/// A number below the count for each row, all different if the count allows it; mostly the last ones given.
 fn distinct(rng: &mut Rng, count: u64) -> Vec<u64> {
+    let lately = count.saturating_sub(ROWS as u64 + 1);
     let mut numbers: Vec<u64> = Vec::new();
     for k in 0..ROWS as u64 {
         let number = match rng.between(0, 2) {
             0 => rng.between(0, count.saturating_sub(1)),
-            1 => rng.between(count.saturating_sub(17), count.saturating_sub(1)),
+            1 => rng.between(lately, count.saturating_sub(1)),
             _ => count.saturating_sub(k + 1),
         };
         let free = |number: &u64| !numbers.contains(number);
         let number = Some(number)
             .filter(free)
-            .or_else(|| (count.saturating_sub(17)..count).find(free));
+            .or_else(|| (lately..count).find(free));
         numbers.push(number.unwrap_or(0));
     }
     numbers
@@ -120,16 +122,12 @@ fn place(rng: &mut Rng, table: &Table, task: usize) -> u32 {
 
 /// Numbers within the limits, around `near` or at the limit.
 fn any_row(rng: &mut Rng, near: u64) -> Row {
-    let mut saved = [0; 4];
-    for slot in &mut saved {
-        *slot = stored(rng, near);
-    }
     Row {
         base: stored(rng, near),
         active: stored(rng, near),
         number: rng.bits() >> rng.between(0, 63),
-        place: rng.pick(&[0, 1, 17, 40, u32::MAX]),
-        saved,
+        place: rng.pick(&[0, 1, STEPS + 1, 40, u32::MAX]),
+        saved: [0; DEPTH].map(|_| stored(rng, near)),
         last: stored(rng, near),
     }
 }
@@ -171,80 +169,72 @@ fn aim_at_held(rng: &mut Rng, state: &mut State, table: &Table) {
     }
 }
 
-/// Breaks one ground of a state that isn't torn, or puts the field just where it still holds.
+/// Breaks a state that isn't torn on one ground, or puts the field just where it still holds.
 pub fn spoil(rng: &mut Rng, state: &mut State, table: &Table) {
     let n = table.tasks.len();
     let row = rng.index(ROWS);
-    let ready = state.ready_tasks(n);
     let beyond = rng.pick(&[0, 1, 1, 1, 2, 1 << 20, 1 << 40, u64::MAX - STORED_TIME]);
     let time = STORED_TIME + beyond;
-    match rng.index(TORN_GROUNDS.len()) {
-        0 => {
-            let at = rng.index(state.length as usize);
-            state.words[at] = match rng.between(0, 2) {
-                0 => state.words[at].wrapping_add(1),
-                1 => state.words[at].wrapping_sub(1),
-                _ => tables::odd_word(rng),
-            };
-            if rng.chance(1, 4) {
-                state.length = rng.pick(&[state.length - 1, state.length + 1, 0, ROOM as u64]);
-            }
+    match rng.pick(&TornGround::all()) {
+        TornGround::Table => spoil_table(rng, state),
+        TornGround::LengthAboveTheRoom => {
+            let room = ROOM as u64;
+            state.length = rng.pick(&[room + 1, room, 1 << 32, 1 << 63, u64::MAX]);
         }
-        1 => state.length = rng.pick(&[ROOM as u64 + 1, ROOM as u64, 1 << 32, 1 << 63, u64::MAX]),
-        2 => {
-            state.clock = rng.pick(&[
-                END_OF_TIME,
-                END_OF_TIME,
-                END_OF_TIME - 1,
-                END_OF_TIME + 1,
-                1 << 63,
-                u64::MAX,
-            ]);
+        TornGround::Clock => state.clock = around(rng, END_OF_TIME - 1),
+        TornGround::Ready => {
+            let beyond = rng.pick(&[n as u32, n as u32, TASKS - 1, TASKS, BITS - 1]);
+            state.ready |= 1 << beyond.min(BITS - 1);
         }
-        3 => {
-            let beyond = rng.pick(&[n as u32, n as u32, 15, 16, 31]);
-            state.ready |= 1 << beyond;
-        }
-        4 => {
-            if ready.is_empty() {
-                return;
-            }
-            let task = rng.pick(&ready);
-            let end = table.tasks[task].steps.len() as u32;
-            state.rows[task].place = rng.pick(&[end, end + 1, end + 1, end + 2, 17, u32::MAX]);
-        }
-        5 => state.rows[row].base = time,
-        6 => state.rows[row].active = time,
-        ground @ 7..=10 => state.rows[row].saved[ground - 7] = time,
-        11 => state.rows[row].last = time,
-        12 => {
+        TornGround::Base => state.rows[row].base = time,
+        TornGround::Active => state.rows[row].active = time,
+        TornGround::Saved(slot) => state.rows[row].saved[slot] = time,
+        TornGround::LastTooFar => state.rows[row].last = time,
+        TornGround::LastAfterTheClock => {
             let task = rng.index(n);
             state.had |= 1 << task;
             state.clock = state.clock.min(END_OF_TIME - 2);
-            let later = state.clock + rng.pick(&[0, 1, 1, 2, 30]);
-            state.rows[task].last = later;
+            state.rows[task].last = state.clock + rng.pick(&[0, 1, 1, 2, 30]);
         }
-        13 => {
-            state.count = rng.pick(&[
-                COUNT_LIMIT,
-                COUNT_LIMIT + 1,
-                COUNT_LIMIT + 1,
-                1 << 63,
-                u64::MAX,
-            ]);
+        TornGround::Count => state.count = around(rng, COUNT_LIMIT),
+        ground @ (TornGround::Place
+        | TornGround::NumbersEqual
+        | TornGround::NumberNotBelowTheCount) => spoil_job(rng, state, table, ground),
+    }
+}
+
+/// This greatest value, or one above it.
+fn around(rng: &mut Rng, most: u64) -> u64 {
+    rng.pick(&[most, most + 1, most + 1, most + 2, 1 << 63, u64::MAX])
+}
+
+fn spoil_table(rng: &mut Rng, state: &mut State) {
+    let at = rng.index(state.length as usize);
+    state.words[at] = match rng.between(0, 2) {
+        0 => state.words[at].wrapping_add(1),
+        1 => state.words[at].wrapping_sub(1),
+        _ => tables::odd_word(rng),
+    };
+    if rng.chance(1, 4) {
+        state.length = rng.pick(&[state.length - 1, state.length + 1, 0, ROOM as u64]);
+    }
+}
+
+/// The grounds that ask for ready jobs; where there are none, nothing is spoiled.
+fn spoil_job(rng: &mut Rng, state: &mut State, table: &Table, ground: TornGround) {
+    let ready = state.ready_tasks(table.tasks.len());
+    if ready.is_empty() {
+        return;
+    }
+    let (task, other) = (rng.pick(&ready), rng.pick(&ready));
+    match ground {
+        TornGround::Place => {
+            let end = table.tasks[task].steps.len() as u32;
+            let far = [end, end + 1, end + 1, end + 2, STEPS + 1, u32::MAX];
+            state.rows[task].place = rng.pick(&far);
         }
-        14 => {
-            if ready.len() < 2 {
-                return;
-            }
-            let (one, other) = (rng.pick(&ready), rng.pick(&ready));
-            state.rows[one].number = state.rows[other].number;
-        }
+        TornGround::NumbersEqual => state.rows[task].number = state.rows[other].number,
         _ => {
-            if ready.is_empty() {
-                return;
-            }
-            let task = rng.pick(&ready);
             let beyond = rng.pick(&[0, 0, 1, 1 << 40, u64::MAX - state.count]);
             state.rows[task].number = state.count + beyond;
         }
@@ -260,7 +250,7 @@ pub fn bend(rng: &mut Rng, state: &mut State) {
         let job = &mut state.rows[row];
         match rng.between(0, 15) {
             0 => state.ready ^= 1 << row,
-            1 => state.had ^= 1 << rng.index(32),
+            1 => state.had ^= 1 << rng.index(BITS as usize),
             2 => state.clock = near.saturating_add(rng.between(0, 20)),
             3 => {
                 state.count = state
@@ -269,10 +259,10 @@ pub fn bend(rng: &mut Rng, state: &mut State) {
                     .saturating_sub(2)
             }
             4 => job.place = job.place.wrapping_add(rng.word(0, 2)).wrapping_sub(1),
-            5 => job.place = rng.word(0, 17),
+            5 => job.place = rng.word(0, STEPS + 1),
             6 => job.active = near.saturating_add(rng.between(0, 40)),
             7 => job.base = near.saturating_add(rng.between(0, 40)),
-            8 => job.saved[rng.index(4)] = near.saturating_add(rng.between(0, 40)),
+            8 => job.saved[rng.index(DEPTH)] = near.saturating_add(rng.between(0, 40)),
             9 => job.last = near.saturating_add(rng.between(0, 20)),
             10 => job.number = state.count.saturating_sub(rng.between(0, 5)),
             11 => state.rows.swap(row, other),
@@ -329,7 +319,7 @@ pub fn wild(rng: &mut Rng) -> State {
             active: number(rng),
             number: number(rng),
             place: number(rng) as u32,
-            saved: [number(rng), number(rng), number(rng), number(rng)],
+            saved: [0; DEPTH].map(|_| number(rng)),
             last: number(rng),
         };
         if rng.chance(1, 2) {
@@ -382,21 +372,23 @@ pub fn widen(rng: &mut Rng, image: &mut Image) {
 
 /// Has an image a number that is too large for its field?
 pub fn is_wide(image: &Image) -> bool {
-    let places = image[FIRST_ROW..].chunks_exact(ROW).map(|row| row[PLACE]);
-    places
+    image
+        .rows()
+        .map(|row| row[PLACE])
         .chain([image[READY], image[HAD]])
         .any(|number| number > u64::from(u32::MAX))
 }
 
 /// An image of nothing but bits by lot, or with a sound table in front of them.
 pub fn noise(rng: &mut Rng) -> Image {
-    let mut image = [0; NUMBERS];
-    for number in &mut image {
+    let mut image = Image::all(0);
+    for number in image.iter_mut() {
         *number = rng.bits() >> rng.pick(&[0, 0, 0, 24, 32, 60]);
     }
     if rng.chance(1, 2) {
-        let table = crate::image::encode(&with_table(&tables::sound(rng)));
-        image[..=PACKED].copy_from_slice(&table[..=PACKED]);
+        let words = tables::sound(rng);
+        image.set_words(&words);
+        image[LENGTH] = words.len() as u64;
     }
     image
 }

@@ -1,18 +1,9 @@
-//! The image, without the archive: what is written is read back, and a picture is the image that it was made from.
+//! The image: what is written is read back, and a picture is the image that it was made from.
 
-use board_tests::draw::states;
-use board_tests::image::{as_text, at, decode, encode, name, picture, Image};
-use board_tests::image::{HAD, LAST, LENGTH, NUMBERS, PACKED, PLACE, READY, ROW};
-use reference::rng::Rng;
-
-#[test]
-fn sizes() {
-    assert_eq!(PACKED, 417);
-    assert_eq!(NUMBERS, 566);
-    assert_eq!(at(15, LAST), NUMBERS - 1);
-    // "the image is at most 5 KB"
-    assert_eq!(std::mem::size_of::<Image>(), 4528);
-}
+use harness::draw::states;
+use harness::image::{as_text, at, decode, encode, name, picture};
+use harness::image::{HAD, LAST, LENGTH, NUMBERS, PLACE, READY, ROW, SAVED};
+use harness::rng::Rng;
 
 #[test]
 fn what_is_written_is_read_back() {
@@ -27,7 +18,7 @@ fn what_is_written_is_read_back() {
 fn a_word_lies_in_its_half() {
     let image = picture(&[1, 2, 3], [3, 0, 0, 0, 0], &[]);
     assert_eq!(image[..2], [1 | 2 << 32, 3]);
-    assert_eq!(decode(&image).words[..4], [1, 2, 3, 0]);
+    assert_eq!(image.words()[..4], [1, 2, 3, 0]);
 }
 
 #[test]
@@ -51,7 +42,7 @@ fn every_number_has_a_name() {
     assert_eq!(names[READY], "ready");
     assert_eq!(names[HAD], "had");
     assert_eq!(names[at(3, PLACE)], "row 3, place");
-    assert_eq!(names[at(15, 7)], "row 15, saved 3");
+    assert_eq!(names[at(15, SAVED + 3)], "row 15, saved 3");
     names.sort();
     names.dedup();
     assert_eq!(names.len(), NUMBERS);

@@ -2,19 +2,21 @@
 //! ties, at the limits and at every refusal.
 
 mod badlines;
-mod events;
-mod tables;
 
-use crate::check::check;
+use reference::check;
+use reference::limits::END_OF_TIME;
+use reference::script::{Answer, Player};
+
+use crate::draw::events::{self, Manner};
+use crate::draw::{search_cost, tables};
+use crate::event::Event;
 use crate::rng::Rng;
-use crate::script::{Answer, Player};
-use crate::tally::Tally;
-use crate::verdict::{common_period, search_end};
+use crate::tally::ScriptTally;
 
 /// A generated script and what it meets.
 pub struct Script {
     pub text: Vec<u8>,
-    pub tally: Tally,
+    pub tally: ScriptTally,
 }
 
 /// Writes a script with about `count` lines that have a reply. A wild one also has bytes of every value in
@@ -24,10 +26,9 @@ pub fn generate(seed: u64, count: u64, wild: bool) -> Script {
         rng: Rng::new(seed),
         text: Vec::new(),
         player: Player::new(),
-        tally: Tally::new(),
+        tally: ScriptTally::default(),
         wild,
-        eager: 4,
-        pace: 2,
+        manner: Manner { eager: 4, pace: 2 },
     };
     // Before any table and any start: every command has a reply from the first line on.
     for line in ["check", "show", "release 0 at 0", "step at 0", "verdict"] {
@@ -52,19 +53,18 @@ struct Writer {
     rng: Rng,
     text: Vec<u8>,
     player: Player,
-    tally: Tally,
+    tally: ScriptTally,
     wild: bool,
-    /// How many events out of twenty are releases while somebody is ready: with few, jobs get far in their plans.
-    eager: u64,
-    /// The most ticks that mostly lie between two events: with few, the locks lower the deadlines more.
-    pace: u64,
+    manner: Manner,
 }
 
 impl Writer {
     /// A table and what is done with it.
     fn morning(&mut self) {
-        self.eager = self.rng.pick(&[2, 3, 4, 8]);
-        self.pace = self.rng.pick(&[1, 1, 2, 6]);
+        self.manner = Manner {
+            eager: self.rng.pick(&[2, 3, 4, 8]),
+            pace: self.rng.pick(&[1, 1, 2, 6]),
+        };
         let words = tables::table(&mut self.rng);
         self.say_table(&words);
         let sound = check(&words).is_ok();
@@ -102,17 +102,35 @@ impl Writer {
 
     /// Ask for the verdict, but rarely where the search over every t is a long one.
     fn verdict_is_wanted(&mut self, words: &[u32]) -> bool {
-        let cost = match check(words) {
-            Err(_) => 0,
-            Ok(table) => match common_period(&table) {
-                None => 0,
-                Some(common) => search_end(&table, common) * table.tasks.len() as u64,
-            },
-        };
-        if cost > 200_000 {
+        if search_cost(words) > 200_000 {
             self.rng.chance(1, 4)
         } else {
             self.rng.chance(7, 10)
+        }
+    }
+
+    /// A release or a step.
+    fn event(&mut self) {
+        let state = &self.player.state;
+        let table = state.table();
+        let event = events::event(&mut self.rng, self.manner, state, table.as_ref());
+        self.say(&event.to_string());
+    }
+
+    /// A jump to the last ticks before the end of time: the mornings after it are short.
+    fn jump(&mut self) {
+        let state = &self.player.state;
+        let near = END_OF_TIME - self.rng.pick(&[1, 1, 2, 5, 20, 60]);
+        let time = near.max(state.clock);
+        let event = if self.rng.chance(1, 2) {
+            Event::Step { time }
+        } else {
+            let task = events::task(&mut self.rng, state, state.table().as_ref());
+            Event::Release { task, time }
+        };
+        self.say(&event.to_string());
+        for _ in 0..self.rng.between(0, 25) {
+            self.event();
         }
     }
 

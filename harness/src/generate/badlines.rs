@@ -1,7 +1,8 @@
 //! Lines that are no command, of each kind, and near misses.
 
+use reference::script::LINE_ROOM;
+
 use super::Writer;
-use crate::script::LINE_ROOM;
 
 const UNKNOWN_WORD: [&str; 14] = [
     "stap at 5",
