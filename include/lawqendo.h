@@ -40,8 +40,8 @@ extern "C" {
 
 /*
  * answer[LAWQENDO_NUMBER]    what is answered, by the numbers below; the call returns it too
- * answer[LAWQENDO_VALUE]     with refusals 1 to 5 the place, a word index; with LATE the least t; with FINISHED the lateness, to
- *                            be read as (int64_t)answer[LAWQENDO_VALUE]
+ * answer[LAWQENDO_VALUE]     with refusals 1 to 5 and 14 the place, a word index; with LATE the least t; with FINISHED the
+ *                            lateness, to be read as (int64_t)answer[LAWQENDO_VALUE]
  * answer[LAWQENDO_RUNS]      1 if a job runs now, 0 if the processor is idle (an accepted event; else 0)
  * answer[LAWQENDO_TASK]      the running job's task
  * answer[LAWQENDO_DEADLINE]  its active deadline, in ticks
@@ -69,6 +69,7 @@ enum {
     LAWQENDO_ACTIVE = 10,  /* a release: the task's job is still ready */
     LAWQENDO_EARLY = 11,   /* a release: less than T after the task's last accepted release */
     LAWQENDO_HELD = 12,    /* a step: it locks what another ready job holds; never from a fresh start */
+    LAWQENDO_CROWDED = 14, /* the check, a start or a verdict: a plan's sections claim more ticks than C, or than the section around them */
     LAWQENDO_FITS = 20,    /* the verdict: demand and blocking stay within t, for every t without end */
     LAWQENDO_LATE = 21,    /* the least t whose demand and blocking are above t stands in the answer */
     LAWQENDO_HEAVY = 22,   /* more work than time */
@@ -99,7 +100,7 @@ enum {
 #define LAWQENDO_AT_HAD 421
 #define LAWQENDO_AT_ROW(i) (422 + 9 * (i))
 
-/* The check. Answers ACCEPTED, or a refusal 1 to 5 with its place. */
+/* The check. Answers ACCEPTED, or a refusal 1 to 5 or 14 with its place. */
 uint64_t lawqendo_check(const uint32_t *words, size_t words_length, uint64_t answer[LAWQENDO_ANSWER]);
 
 /* A start. Answers as the check does. ACCEPTED leaves the image of a fresh state; a refusal leaves zeros, on which every event is TORN.
@@ -115,7 +116,7 @@ uint64_t lawqendo_release(uint64_t image[LAWQENDO_IMAGE], uint32_t task, uint64_
    who runs; either leaves the new state's image. Or a refusal 6, 7, 8, 9 or 12, and leaves the image as it was, number for number. */
 uint64_t lawqendo_step(uint64_t image[LAWQENDO_IMAGE], uint64_t time, uint64_t answer[LAWQENDO_ANSWER]);
 
-/* The timing verdict. Answers FITS, LATE with its t, HEAVY or LONG; or a refusal 1 to 5 with its place. It may take long: some
+/* The timing verdict. Answers FITS, LATE with its t, HEAVY or LONG; or a refusal 1 to 5 or 14 with its place. It may take long: some
    2,000,000 values of t may be tried. */
 uint64_t lawqendo_verdict(const uint32_t *words, size_t words_length, uint64_t answer[LAWQENDO_ANSWER]);
 

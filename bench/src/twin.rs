@@ -10,8 +10,8 @@ use harness::image::{NUMBER, PLACE, READY, ROW, SAVED};
 use harness::sets::all_below;
 use harness::Event;
 use reference::limits::{self, COUNT_LIMIT, END_OF_TIME, ROOM, ROWS, STORED_TIME};
-use reference::limits::{BACK, DEPTH, EARLY, END, HELD, NEST, NOBODY, RANGE, SHORT, STEP, TORN};
-use reference::limits::{RESOURCES, STEPS, STEP_WORDS, TABLE_HEAD, TASKS, TASK_HEAD, TICKS};
+use reference::limits::{BACK, CROWDED, EARLY, END, HELD, NEST, NOBODY, RANGE, SHORT, STEP, TORN};
+use reference::limits::{DEPTH, RESOURCES, STEPS, STEP_WORDS, TABLE_HEAD, TASKS, TASK_HEAD, TICKS};
 
 use crate::plain::verdict;
 
@@ -79,6 +79,8 @@ fn plan(
     let mut held: u32 = 0;
     let mut depth = 0;
     let mut sections = [(0, 0); DEPTH];
+    // What is left of C, and of each section that is held.
+    let mut left = [cost; DEPTH + 1];
     for _ in 0..steps {
         let Some(&[kind, resource, ticks]) = words.get(at..at + STEP_WORDS) else {
             return Err((SHORT, words.len()));
@@ -95,9 +97,14 @@ fn plan(
             if held >> resource & 1 == 1 || depth == DEPTH || ticks > around {
                 return Err((NEST, at));
             }
+            if ticks > left[depth] {
+                return Err((CROWDED, at));
+            }
             held |= 1 << resource;
             sections[depth] = (resource, ticks);
+            left[depth] -= ticks;
             depth += 1;
+            left[depth] = ticks;
         } else {
             if kind != 2 || resource != 0 || ticks != 0 {
                 return Err((STEP, at));

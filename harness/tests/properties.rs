@@ -4,12 +4,12 @@ use harness::draw::events::{event, Manner};
 use harness::draw::{states, tables};
 use harness::generate::generate;
 use harness::rng::Rng;
-use harness::tally::grounds::{CheckGround, TornGround};
+use harness::tally::grounds::{filled, CheckGround, TornGround};
 use harness::tally::tally;
 use reference::limits::{name, HELD, OF_RELEASE, OF_STEP, TORN};
 use reference::script::{Answer, Player};
 use reference::verdict::{common_period, search_end};
-use reference::{check, start, torn, verdict, Reply, State, Table, Verdict};
+use reference::{check, start, torn, verdict, Reply, State, Step, Table, Verdict};
 
 /// From a fresh start HELD and TORN are never met, and a refused event hands the state back equal.
 #[test]
@@ -112,6 +112,45 @@ fn any_words_are_answered() {
         }
     }
     assert!((1000..1900).contains(&refused), "{refused}");
+}
+
+/// Do the lengths of a plan's outermost sections add up to at most this, and those of the sections directly inside each of them to at most its
+/// own length?
+fn fit(steps: &[Step], most: u32) -> bool {
+    let mut claimed = 0;
+    let mut rest = steps;
+    while let [Step::Lock(section), behind @ ..] = rest {
+        let held = |end: &usize| behind[..*end].iter().fold(1, after);
+        let end = (0..=behind.len()).find(|end| held(end) == 0);
+        let end = end.expect("a sound plan unlocks it");
+        if !fit(&behind[..end - 1], section.length) {
+            return false;
+        }
+        claimed += section.length;
+        rest = &behind[end..];
+    }
+    claimed <= most
+}
+
+/// How many sections are held after a step.
+fn after(held: usize, step: &Step) -> usize {
+    match step {
+        Step::Lock(_) => held + 1,
+        Step::Unlock => held - 1,
+    }
+}
+
+/// What passes the check has sections that fit, and many have some that just fit.
+#[test]
+fn sound_plans_fit() {
+    let mut rng = Rng::new(5);
+    let mut just = 0;
+    for _ in 0..4000 {
+        let tasks = check(&tables::any(&mut rng)).map_or(Vec::new(), |table| table.tasks);
+        assert!(tasks.iter().all(|task| fit(&task.steps, task.cost)));
+        just += tasks.iter().flat_map(filled).count();
+    }
+    assert!(just > 200, "{just}");
 }
 
 /// What the jobs of a table must have done by t in the worst case, counted job by job, and the longest section

@@ -1,6 +1,7 @@
-//! The table check (01, "When the table check says no").
+//! The table check (01, "When the table check says no", and request 105).
 
-use crate::limits::{COUNT, DEPTH, NEST, RANGE, RESOURCES, SHORT, STEP, STEPS, TASKS, TICKS};
+use crate::limits::{COUNT, CROWDED, NEST, RANGE, SHORT, STEP};
+use crate::limits::{DEPTH, RESOURCES, STEPS, TASKS, TICKS};
 use crate::table::{Section, Step, Table, Task};
 
 /// A refusal of the check: its number and its place, which is a word index.
@@ -67,12 +68,16 @@ fn check_task(reader: &mut Reader, resources: u32) -> Result<Task, Refusal> {
     let cost = reader.ask_between(1, TICKS, RANGE)?;
     let count = reader.ask_between(0, STEPS, COUNT)?;
     let mut steps = Vec::new();
-    // The sections that the plan holds so far, the outermost first.
-    let mut held: Vec<Section> = Vec::new();
+    let mut plan = Plan {
+        resources,
+        cost,
+        claimed: 0,
+        held: Vec::new(),
+    };
     for _ in 0..count {
-        steps.push(check_step(reader, resources, cost, &mut held)?);
+        steps.push(check_step(reader, &mut plan)?);
     }
-    if !held.is_empty() {
+    if !plan.held.is_empty() {
         // A plan that ends holding something: the place is the index after the plan's last word.
         return refuse(NEST, reader.at);
     }
@@ -84,46 +89,77 @@ fn check_task(reader: &mut Reader, resources: u32) -> Result<Task, Refusal> {
     })
 }
 
-/// Reads one step. Its three words are asked for together, and within it 4 goes before 5.
-fn check_step(
-    reader: &mut Reader,
-    resources: u32,
-    cost: u32,
-    held: &mut Vec<Section>,
-) -> Result<Step, Refusal> {
+/// Reads one step. Its three words are asked for together, and a refusal's place is the first of them.
+fn check_step(reader: &mut Reader, plan: &mut Plan) -> Result<Step, Refusal> {
     let place = reader.at;
     let kind = reader.ask()?;
     let resource = reader.ask()?;
     let length = reader.ask()?;
-    match kind {
-        1 => {
-            if resource >= resources || length < 1 || length > cost {
-                return refuse(STEP, place);
-            }
-            if held.iter().any(|section| section.resource == resource) {
-                return refuse(NEST, place);
-            }
-            if held.len() >= DEPTH {
-                return refuse(NEST, place);
-            }
-            if let Some(around) = held.last() {
-                if length > around.length {
-                    return refuse(NEST, place);
-                }
-            }
-            let section = Section { resource, length };
-            held.push(section);
-            Ok(Step::Lock(section))
+    let step = match kind {
+        1 => plan.lock(Section { resource, length }),
+        2 if resource == 0 && length == 0 => plan.unlock(),
+        _ => Err(STEP),
+    };
+    step.map_err(|number| Refusal { number, place })
+}
+
+/// A plan as far as it was read.
+struct Plan {
+    /// m
+    resources: u32,
+    /// C
+    cost: u32,
+    /// The sum of the outermost sections' lengths.
+    claimed: u32,
+    /// The sections that it holds, the outermost first.
+    held: Vec<Held>,
+}
+
+/// A section that is held, and the sum of the lengths of the sections directly inside it.
+struct Held {
+    section: Section,
+    claimed: u32,
+}
+
+impl Plan {
+    /// A lock; or the number that it is refused with. Within a step 4 goes before 5, and 5 before 14.
+    fn lock(&mut self, section: Section) -> Result<Step, u32> {
+        let Section { resource, length } = section;
+        if resource >= self.resources || length < 1 || length > self.cost {
+            return Err(STEP);
         }
-        2 => {
-            if resource != 0 || length != 0 {
-                return refuse(STEP, place);
-            }
-            if held.pop().is_none() {
-                return refuse(NEST, place);
-            }
-            Ok(Step::Unlock)
+        if self.held.iter().any(|it| it.section.resource == resource) {
+            return Err(NEST);
         }
-        _ => refuse(STEP, place),
+        if self.held.len() >= DEPTH {
+            return Err(NEST);
+        }
+        if let Some(around) = self.held.last() {
+            if length > around.section.length {
+                return Err(NEST);
+            }
+        }
+        // How long what is right around it may take, and what the sections directly inside that claim before this one.
+        let (most, claimed) = match self.held.last_mut() {
+            Some(around) => (around.section.length, &mut around.claimed),
+            None => (self.cost, &mut self.claimed),
+        };
+        *claimed += length;
+        if *claimed > most {
+            return Err(CROWDED);
+        }
+        self.held.push(Held {
+            section,
+            claimed: 0,
+        });
+        Ok(Step::Lock(section))
+    }
+
+    /// An unlock of the most recent section; or the number that it is refused with.
+    fn unlock(&mut self) -> Result<Step, u32> {
+        match self.held.pop() {
+            Some(_) => Ok(Step::Unlock),
+            None => Err(NEST),
+        }
     }
 }

@@ -1,4 +1,4 @@
-//! The numbers of document 01: its limits, and the numbers and names of its replies.
+//! The numbers of document 01: its limits, and the numbers and names of its replies; and those that later requests add.
 
 /// Most tasks in a table (01, "The words of a table").
 pub const TASKS: u32 = 16;
@@ -36,6 +36,8 @@ pub const COUNT: u32 = 2;
 pub const RANGE: u32 = 3;
 pub const STEP: u32 = 4;
 pub const NEST: u32 = 5;
+/// Request 105: sections that can't fit.
+pub const CROWDED: u32 = 14;
 
 // Refusals of an event (01, "When an event is turned away").
 pub const TORN: u32 = 6;
@@ -53,7 +55,7 @@ pub const HEAVY: u32 = 22;
 pub const LONG: u32 = 23;
 
 /// What the check, and with it a start and a verdict, can refuse.
-pub const OF_TABLE: [u32; 5] = [SHORT, COUNT, RANGE, STEP, NEST];
+pub const OF_TABLE: [u32; 6] = [SHORT, COUNT, RANGE, STEP, NEST, CROWDED];
 /// What a release can be refused with.
 pub const OF_RELEASE: [u32; 6] = [TORN, BACK, END, NOBODY, ACTIVE, EARLY];
 /// What a step can be refused with.
@@ -61,8 +63,8 @@ pub const OF_STEP: [u32; 5] = [TORN, BACK, END, NOBODY, HELD];
 /// What a verdict on a sound table can be.
 pub const VERDICTS: [u32; 4] = [FITS, LATE, HEAVY, LONG];
 
-/// The name that document 01 gives to each number.
-pub const NAMES: [(u32, &str); 16] = [
+/// The name of each number.
+pub const NAMES: [(u32, &str); 17] = [
     (SHORT, "SHORT"),
     (COUNT, "COUNT"),
     (RANGE, "RANGE"),
@@ -75,13 +77,14 @@ pub const NAMES: [(u32, &str); 16] = [
     (ACTIVE, "ACTIVE"),
     (EARLY, "EARLY"),
     (HELD, "HELD"),
+    (CROWDED, "CROWDED"),
     (FITS, "FITS"),
     (LATE, "LATE"),
     (HEAVY, "HEAVY"),
     (LONG, "LONG"),
 ];
 
-/// The name of a number.
+/// The name that goes with a number.
 pub fn name(number: u32) -> &'static str {
     NAMES
         .iter()

@@ -7,7 +7,7 @@ use crate::table::Table;
 /// What the verdict answers.
 #[derive(Clone, Copy, PartialEq, Eq, Debug)]
 pub enum Verdict {
-    /// The table doesn't pass the check: 1 to 5, and the place.
+    /// The table doesn't pass the check: its refusal, with the place.
     Refused(Refusal),
     /// 20: every t without end holds.
     Fits,

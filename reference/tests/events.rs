@@ -186,6 +186,13 @@ fn torn_by_its_table() {
     // A list of words of another size than the room has no such length.
     torn(|state| state.words.truncate(25));
     torn(|state| state.words.clear());
+    // Two sections of task 2 that claim a tick more than its C, and two that fill it.
+    let sections = |state: &mut State, second: u32| {
+        state.words[19..32].copy_from_slice(&[4, 1, 0, 6, 2, 0, 0, 1, 0, second, 2, 0, 0]);
+        state.length = 32;
+    };
+    torn(|state| sections(state, 5));
+    whole(|state| sections(state, 4));
 }
 
 #[test]

@@ -7,10 +7,10 @@ use harness::answers::{DEADLINE, NUMBER, RUNS, TASK, VALUE};
 use harness::calls::{Calls, Second};
 use harness::image::{self, at, decode, encode, Image, ACTIVE, BASE, CLOCK, COUNT, HAD, LAST};
 use harness::image::{LENGTH, PLACE, READY, SAVED};
+use harness::tally::grounds::{filled, Crowding};
 use harness::Event;
-use reference::limits::{
-    BACK, COUNT_LIMIT, EARLY, END_OF_TIME, HELD, LATE, ROOM, STORED_TIME, TORN,
-};
+use reference::limits::{BACK, CROWDED, EARLY, HELD, LATE, TORN};
+use reference::limits::{COUNT_LIMIT, END_OF_TIME, ROOM, STORED_TIME};
 use reference::{running, Step};
 
 /// What is done wrong with an event: given the image before it, the event, and what was right.
@@ -19,6 +19,7 @@ type Wrong = Box<dyn Fn(&Image, Event, &mut Image, &mut Answer)>;
 /// The second program, and what is done wrong in its calls.
 struct Slip {
     event: Wrong,
+    check: fn(words: &[u32], answer: &mut Answer),
     start: fn(image: &mut Image, answer: &mut Answer),
     verdict: fn(answer: &mut Answer),
 }
@@ -27,6 +28,7 @@ struct Slip {
 fn right() -> Slip {
     Slip {
         event: Box::new(|_, _, _, _| {}),
+        check: |_, _| {},
         start: |_, _| {},
         verdict: |_| {},
     }
@@ -34,7 +36,9 @@ fn right() -> Slip {
 
 impl Calls for Slip {
     fn check(&self, words: &[u32], answer: &mut Answer) -> u64 {
-        Second.check(words, answer)
+        Second.check(words, answer);
+        (self.check)(words, answer);
+        answer[NUMBER]
     }
 
     fn start(&self, words: &[u32], image: &mut Image, answer: &mut Answer) -> u64 {
@@ -300,6 +304,42 @@ fn an_answer_keeps_what_it_had() {
     found(|_, _, _, answer| {
         if !is_accepted(answer) {
             answer[DEADLINE] = 1;
+        }
+    });
+}
+
+/// A slip of the check alone.
+fn found_by_check(check: fn(&[u32], &mut Answer)) {
+    assert!(is_found(&Slip { check, ..right() }));
+}
+
+#[test]
+fn a_crowded_plan_passes() {
+    found_by_check(|_, answer| {
+        if answer[NUMBER] == u64::from(CROWDED) {
+            *answer = plain(ACCEPTED, 0);
+        }
+    });
+}
+
+#[test]
+fn sections_that_just_fit_are_crowded() {
+    found_by_check(|words, answer| {
+        let tasks = reference::check(words).map_or(Vec::new(), |table| table.tasks);
+        if tasks.iter().any(|task| !filled(task).is_empty()) {
+            *answer = plain(u64::from(CROWDED), 0);
+        }
+    });
+}
+
+#[test]
+fn crowded_goes_before_nest() {
+    found_by_check(|words, answer| {
+        let crowding = reference::check(words)
+            .err()
+            .and_then(|it| Crowding::of(words, it));
+        if crowding == Some(Crowding::AfterNest) {
+            answer[NUMBER] = u64::from(CROWDED);
         }
     });
 }

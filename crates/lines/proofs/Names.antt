@@ -3,29 +3,24 @@ use mathlib.Core.Path.{_≡_, refl, sym}
 use mathlib.Core.List.{List, [], _∷_}
 use Prim.Native.Nat.{ℕ}
 use borrow.Author.Tests.{ne-eqb}
-use types.Run.{OneOf, miss}
+use types.Run.{OneOf}
 use denote.Enum.Declared
 use Rattle.numbers.specs.Answers.{Named, answers, nameIn, nameOf}
 use Rattle.table.specs.Said.{saidOf, numberIn, placeIn}
 use Rattle.table.specs.declared.Finding.{Finding}
-use Rattle.table.specs.declared.Finding.the-variants.{Sound, Short, Count, Range, Step, Nest}
+use Rattle.table.specs.declared.Finding.the-variants.{Sound, Short, Count, Range, Step, Nest, Crowded}
 use Rattle.table.proofs.Finding
+use Rattle.table.proofs.Findings.{others, not-sound, refusal}
 use Rattle.verdict.specs.Said.{refusalSaid}
 use Rattle.text.specs.Bytes.{bytes}
 use Rattle.lines.specs.Lines.{placedText, findingText, verdictText}
 
 -- The code's test tells a sound finding from the others.
-abbrev others : List ℕ
-others = 1 ∷ 2 ∷ 3 ∷ 4 ∷ 5 ∷ []
-
 pub finding-refused : (passes : List ℕ) (f : Finding) → OneOf others (Declared.tagOf Finding.the-type f) →
     findingText passes (saidOf f) ≡ placedText (numberIn (saidOf f)) (placeIn (saidOf f))
-finding-refused passes Sound told = absurd (miss others 0 tt told)
-finding-refused passes (Short place) told = refl
-finding-refused passes (Count place) told = refl
-finding-refused passes (Range place) told = refl
-finding-refused passes (Step place) told = refl
-finding-refused passes (Nest place) told = refl
+finding-refused passes f told =
+    let r = refusal f (not-sound f told) in
+    rw (r .said)
 
 -- A verdict that refuses says what the check says.
 pub verdict-refused : (f : Finding) → verdictText (refusalSaid (saidOf f)) ≡ findingText (bytes "sound") (saidOf f)
@@ -35,6 +30,7 @@ verdict-refused (Count place) = refl
 verdict-refused (Range place) = refl
 verdict-refused (Step place) = refl
 verdict-refused (Nest place) = refl
+verdict-refused (Crowded place) = refl
 
 -- A number that is none of a list's has no name there. The first type is what is known of it besides, as a match's last arm tells it.
 abbrev Missed : List Named → Type 0 → ℕ → Type 0

@@ -6,6 +6,7 @@ use dispatch::Turn;
 use numbers::answers::ACTIVE;
 use numbers::answers::BACK;
 use numbers::answers::COUNT;
+use numbers::answers::CROWDED;
 use numbers::answers::EARLY;
 use numbers::answers::END;
 use numbers::answers::FITS;
@@ -111,6 +112,7 @@ fn put_name(buffer: &mut [u8], at: usize, number: u32) -> usize
         RANGE => put_text(buffer, at, b"RANGE"),
         STEP => put_text(buffer, at, b"STEP"),
         NEST => put_text(buffer, at, b"NEST"),
+        CROWDED => put_text(buffer, at, b"CROWDED"),
         TORN => put_text(buffer, at, b"TORN"),
         BACK => put_text(buffer, at, b"BACK"),
         END => put_text(buffer, at, b"END"),

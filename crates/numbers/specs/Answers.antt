@@ -22,6 +22,10 @@ STEP = 4
 abbrev pub NEST : ℕ
 NEST = 5
 
+-- Request 105: "New refusal 14 CROWDED, place: the lock step that goes over."
+abbrev pub CROWDED : ℕ
+CROWDED = 14
+
 -- "When an event is turned away"
 abbrev pub TORN : ℕ
 TORN = 6
@@ -73,6 +77,7 @@ answers =
     (RANGE called "RANGE") ∷
     (STEP called "STEP") ∷
     (NEST called "NEST") ∷
+    (CROWDED called "CROWDED") ∷
     (TORN called "TORN") ∷
     (BACK called "BACK") ∷
     (END called "END") ∷

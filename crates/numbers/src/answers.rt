@@ -11,6 +11,9 @@ pub const STEP: u32 = 4;
 
 pub const NEST: u32 = 5;
 
+// Request 105: "New refusal 14 CROWDED, place: the lock step that goes over."
+pub const CROWDED: u32 = 14;
+
 // "When an event is turned away"
 pub const TORN: u32 = 6;
 

@@ -3,11 +3,11 @@ use Prim.Native.Nat.{ℕ}
 use mathlib.Core.Path.{_≡_, refl, ap}
 use mathlib.Core.Bool.{cond}
 use lib.Dec.{eqb}
-use Rattle.numbers.specs.Answers.{SHORT, COUNT, RANGE, STEP, NEST, TORN, BACK, END, NOBODY, ACTIVE, EARLY, FITS, LATE, HEAVY, LONG}
+use Rattle.numbers.specs.Answers.{SHORT, COUNT, RANGE, STEP, NEST, CROWDED, TORN, BACK, END, NOBODY, ACTIVE, EARLY, FITS, LATE, HEAVY, LONG}
 use Rattle.table.specs.Said.{saidOf, passes, says}
 use Rattle.table.specs.Said as table
 use Rattle.table.specs.declared.Finding.{Finding}
-use Rattle.table.specs.declared.Finding.the-variants.{Sound, Short, Count, Range, Step, Nest}
+use Rattle.table.specs.declared.Finding.the-variants.{Sound, Short, Count, Range, Step, Nest, Crowded}
 use Rattle.machine.specs.Reply.{runs, idle, refused, wentOn, finished}
 use Rattle.machine.specs.Reply as reply
 use Rattle.verdict.specs.Verdict as verdict
@@ -35,7 +35,8 @@ findingBy number place =
     (cond (eqb number RANGE) (Range place)
     (cond (eqb number STEP) (Step place)
     (cond (eqb number NEST) (Nest place)
-    Sound))))
+    (cond (eqb number CROWDED) (Crowded place)
+    Sound)))))
 
 abbrev pub findingFrom : table.CheckReply → Finding
 findingFrom passes = Sound
@@ -48,6 +49,7 @@ finding-back (Count place) = refl
 finding-back (Range place) = refl
 finding-back (Step place) = refl
 finding-back (Nest place) = refl
+finding-back (Crowded place) = refl
 
 -- The refusal with a number.
 abbrev refusalFrom : ℕ → Refusal
@@ -123,6 +125,7 @@ refused-back (Count place) = refl
 refused-back (Range place) = refl
 refused-back (Step place) = refl
 refused-back (Nest place) = refl
+refused-back (Crowded place) = refl
 
 pub verdict-back : (r : Verdict) → verdictFrom (verdictSaid r) ≡ r
 verdict-back (RefusedAs finding) = refused-back finding

@@ -1,24 +1,26 @@
 -- The held sections as the code keeps them: two arrays, innermost first, and a depth for the list (`sectionsIn`), a set for its resources
--- (`heldSet`). Laws of a lock, which shifts the arrays by one place, of an unlock, which shifts them back, and of what the tests on the
+-- (`heldSet`), and one array of what is left at each level (`spareIn`). Laws of a lock, which shifts the arrays by one place, of an unlock, which shifts them back, and of what the tests on the
 -- arrays say of the list. No resource is held twice (`Apart`), so taking one out of the set leaves the set of the rest. Assumes nothing.
 use Prim.Native.Nat.{ℕ, zero, suc, _+_, _-_, _≤_, _<_}
-use mathlib.Core.Path.{_≡_, refl, sym, ap, subst, _∙_}
+use mathlib.Core.Path.{_≡_, refl, sym, ap, ap₂, subst, _∙_}
 use mathlib.Core.Bool.{Bool, true, false, true≢false, _||_}
 use mathlib.Core.List.{List, [], _∷_, _++_}
 use native.Mathlib.Nat.{lt-irrefl, le-of-suc-le-suc}
 use native.Mathlib.Numerals.{add-one}
 use native.Mathlib.Omega.{arith}
 use lib.Dec.{ltb, leb, eqb}
-use lib.ListN.{length, getD, drop}
+use lib.ListN.{length, getD, take, drop}
+use lib.Seq.{take-append-le}
 use borrow.Author.Tests.{leb-false, ne-eqb}
 use Rattle.sets.specs.Member.{width, has, withOf, withoutOf}
 use Rattle.sets.proofs.Digit.{has-zero}
 use Rattle.sets.proofs.Change.{has-with, without-with}
-use Rattle.table.specs.Limits.{mostHeld}
+use Rattle.table.specs.Limits.{mostHeld, mostLevels}
 use Rattle.table.specs.Check.{brokenLock, nothingHeld}
-use Rattle.table.specs.Held.{Section, heldAfter, holds, heldSet}
-use Rattle.table.specs.Table.{unlock}
-use Rattle.table.specs.Walk.{sectionsOf, sectionsIn, Apart, Fair, Leaves}
+use Rattle.table.specs.Held.{Section, holds, heldSet}
+use Rattle.table.specs.Spare.{spareHere, spareAfter}
+use Rattle.table.specs.Table.{lock, unlock}
+use Rattle.table.specs.Walk.{sectionsOf, sectionsIn, spareIn, Standing, standingIn, standingFirst, standingAfter, Apart, Fair, Leaves}
 use Rattle.table.specs.declared.sections.Sections.{Sections}
 use Rattle.numbers.proofs.Tests.{eqb-sym}
 
@@ -87,46 +89,98 @@ module _ (depth : ℕ) (resources lengths : List ℕ) (wide : length resources �
       let f = ap (λ (xs : List ℕ). drop 1 xs) (four lengths long) in
       sections-front depth (lastThree resources) (lastThree lengths) (0 ∷ []) (0 ∷ []) h h ∙ cc
 
+-- What is left, in an array of five.
+abbrev middleThree : List ℕ → List ℕ
+middleThree xs = getD xs 1 0 ∷ getD xs 2 0 ∷ getD xs 3 0 ∷ []
+
+five : (xs : List ℕ) → length xs ≡ mostLevels → xs ≡ getD xs 0 0 ∷ (middleThree xs ++ (getD xs 4 0 ∷ []))
+five [] e = absurd (omega arith)
+five (a ∷ []) e = absurd (omega arith)
+five (a ∷ b ∷ []) e = absurd (omega arith)
+five (a ∷ b ∷ c ∷ []) e = absurd (omega arith)
+five (a ∷ b ∷ c ∷ d ∷ []) e = absurd (omega arith)
+five (a ∷ b ∷ c ∷ d ∷ x ∷ []) e = refl
+five (a ∷ b ∷ c ∷ d ∷ x ∷ y ∷ xs) e = absurd (omega arith)
+
+-- A lock opens a level in it, and an unlock closes one.
+abbrev pub opened : ℕ → List ℕ → List ℕ
+opened l xs = l ∷ (getD xs 0 0 - l) ∷ middleThree xs
+
+abbrev pub closed : List ℕ → List ℕ
+closed xs = (middleThree xs ++ (getD xs 4 0 ∷ [])) ++ (0 ∷ [])
+
+-- The innermost level is the first of the array.
+pub spare-here : (depth : ℕ) (xs : List ℕ) → spareHere (take (suc depth) xs) ≡ getD xs 0 0
+spare-here depth [] = refl
+spare-here depth (x ∷ xs) = refl
+
+drop-taken : (depth : ℕ) (xs : List ℕ) → drop 1 (take (suc depth) xs) ≡ take depth (drop 1 xs)
+drop-taken zero [] = refl
+drop-taken (suc depth) [] = refl
+drop-taken depth (x ∷ xs) = refl
+
+module _ (depth : ℕ) (xs : List ℕ) (long : length xs ≡ mostLevels) where
+  behind-first : drop 1 xs ≡ middleThree xs ++ (getD xs 4 0 ∷ [])
+  behind-first = ap (λ (x : List ℕ). drop 1 x) (five xs long)
+
+  spare-lock : (r l : ℕ) → depth < mostHeld → take (suc (suc depth)) (opened l xs) ≡ spareAfter (lock r l) (take (suc depth) xs)
+  spare-lock r l room =
+      let h : depth ≤ 3 = omega arith in
+      let rest : take depth (middleThree xs) ≡ drop 1 (take (suc depth) xs) =
+      sym (take-append-le depth (middleThree xs) (getD xs 4 0 ∷ []) h) ∙ ap (take depth) (sym behind-first) ∙ sym (drop-taken depth xs)
+      in
+      rw (spare-here depth xs, rest)
+
+  spare-unlock : depth ≤ mostHeld → take depth (closed xs) ≡ spareAfter unlock (take (suc depth) xs)
+  spare-unlock h =
+      take-append-le depth (middleThree xs ++ (getD xs 4 0 ∷ [])) (0 ∷ []) h ∙ ap (take depth) (sym behind-first) ∙ sym (drop-taken depth xs)
+
 -- A list that the code's arrays and set go with is fair.
-fair-of : (held : List Section) (sections : Sections) → sectionsIn sections ≡ held → sections .depth ≤ mostHeld →
-    length (sections .resources) ≡ mostHeld → length (sections .lengths) ≡ mostHeld → sections .set ≡ heldSet held → Apart held →
-    Leaves held sections
-fair-of held sections e d r l s a = record {
-  held-is = e;
+fair-of : (held : List Section) (spare : List ℕ) (sections : Sections) → sectionsIn sections ≡ held → spareIn sections ≡ spare → sections .depth ≤ mostHeld →
+    length (sections .resources) ≡ mostHeld → length (sections .lengths) ≡ mostHeld → length (sections .spare) ≡ mostLevels → sections .set ≡ heldSet held →
+    Apart held → Leaves (record { held = held; spare = spare }) sections
+fair-of held spare sections e f d r l p s a = record {
+  stands = ap₂ {C = Standing} (λ (x : List Section) (y : List ℕ). record { held = x; spare = y }) e f;
   fair = record {
     depth = d;
     resources = r;
     lengths = l;
+    spare = p;
     set = rw e s;
     apart = subst (λ (x : List Section). Apart x) (sym e) a;
   };
 }
 
-pub leaves-nothing : (resources lengths : List ℕ) → length resources ≡ mostHeld → length lengths ≡ mostHeld →
-    Leaves [] (record { set = 0; depth = 0; resources = resources; lengths = lengths })
+pub leaves-nothing : (cost : ℕ) (resources lengths rest : List ℕ) → length resources ≡ mostHeld → length lengths ≡ mostHeld → length rest ≡ mostHeld →
+    Leaves (standingFirst cost) (record { set = 0; depth = 0; resources = resources; lengths = lengths; spare = cost ∷ rest })
 unfolding sectionsOf heldSet
-leaves-nothing resources lengths r l = fair-of [] (record { set = 0; depth = 0; resources = resources; lengths = lengths }) refl (omega arith) r l refl tt
+leaves-nothing cost resources lengths rest r l p =
+    fair-of [] (cost ∷ []) (record { set = 0; depth = 0; resources = resources; lengths = lengths; spare = cost ∷ rest }) refl refl (omega arith) r l (ap suc p) refl tt
 
 module _ (sections : Sections) (fair : Fair sections) where
   pub lock-leaves : (r l s : ℕ) → sections .depth < mostHeld → r < width → holds (sectionsIn sections) r ≡ false → s ≡ withOf width (sections .set) r →
       Leaves
-      (record { resource = r; length = l } ∷ sectionsIn sections)
+      (standingAfter (lock r l) (standingIn sections))
       (record {
         set = s;
         depth = sections .depth + 1;
         resources = pushed r (sections .resources);
         lengths = pushed l (sections .lengths);
+        spare = opened l (sections .spare);
       })
   unfolding heldSet
   lock-leaves r l s d w f e =
-      fair-of (record { resource = r; length = l } ∷ sectionsIn sections) (record {
+      fair-of (record { resource = r; length = l } ∷ sectionsIn sections) (spareAfter (lock r l) (spareIn sections)) (record {
         set = s;
         depth = sections .depth + 1;
         resources = pushed r (sections .resources);
         lengths = pushed l (sections .lengths);
+        spare = opened l (sections .spare);
       })
       (rw (add-one, sections-lock (sections .depth) (sections .resources) (sections .lengths) (fair .resources) (fair .lengths) d r l))
+      (rw add-one (spare-lock (sections .depth) (sections .spare) (fair .spare) r l d))
       (omega arith)
+      refl
       refl
       refl
       (e ∙ ap (λ (x : ℕ). withOf width x r) (fair .set))
@@ -149,12 +203,13 @@ broken-top r l {held} {rest} {s} e =
 module _ (sections : Sections) (fair : Fair sections) (deep : 0 < sections .depth) where
   pub unlock-leaves : (s : ℕ) → s ≡ withoutOf width (sections .set) (getD (sections .resources) 0 0) →
       Leaves
-      (heldAfter unlock (sectionsIn sections))
+      (standingAfter unlock (standingIn sections))
       (record {
         set = s;
         depth = sections .depth - 1;
         resources = popped (sections .resources);
         lengths = popped (sections .lengths);
+        spare = closed (sections .spare);
       })
   unfolding heldSet
   unlock-leaves s e =
@@ -163,15 +218,19 @@ module _ (sections : Sections) (fair : Fair sections) (deep : 0 < sections .dept
       let rest = sectionsOf (sections .depth - 1) (drop 1 (sections .resources)) (drop 1 (sections .lengths)) in
       let a = subst (λ (x : List Section). Apart x) top (fair .apart) in
       let t : sections .set ≡ withOf width (heldSet rest) r = fair .set ∙ ap heldSet top in
+      let less : suc (sections .depth - 1) ≡ sections .depth = omega arith in
       rw top
-      (fair-of rest (record {
+      (fair-of rest (spareAfter unlock (spareIn sections)) (record {
         set = s;
         depth = sections .depth - 1;
         resources = popped (sections .resources);
         lengths = popped (sections .lengths);
+        spare = closed (sections .spare);
       })
       (sections-unlock (sections .depth - 1) (sections .resources) (sections .lengths) (fair .resources) (fair .lengths) (omega (arith, fair .depth)))
+      (ap (λ (x : ℕ). take x (closed (sections .spare))) less ∙ spare-unlock (sections .depth) (sections .spare) (fair .spare) (fair .depth))
       (omega (arith, fair .depth))
+      refl
       refl
       refl
       (e ∙ ap (λ (x : ℕ). withoutOf width x r) t ∙ without-with width (heldSet rest) r (a .0) (has-held rest (a .1 .1) r ∙ a .1 .0))

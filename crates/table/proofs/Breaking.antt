@@ -8,18 +8,21 @@ use native.Mathlib.Omega.{arith}
 use lib.Dec.{ltb, leb}
 use lib.ListN.{length, getD, take, drop}
 use borrow.Author.Tests.{ltb-true, leb-true, leb-false}
-use Rattle.numbers.specs.Answers.{SHORT, COUNT, RANGE, STEP, NEST}
+use Rattle.numbers.specs.Answers.{SHORT, COUNT, RANGE, STEP, NEST, CROWDED}
 use Rattle.numbers.proofs.Tests.{never}
 use Rattle.table.specs.Limits.{mostTasks, mostResources, mostTicks, mostSteps, atTasks, atPeriod, atDeadline, atCost, atSteps, atPlan, stepSize, atResource, atLength}
 use Rattle.table.specs.Table.{Step, Task, Table}
 use Rattle.table.specs.Held.{Section, heldAfter, heldFrom}
+use Rattle.table.specs.Spare.{spareAfter, crowded}
+use Rattle.table.specs.Claims.{Level, unclaimed, levelsAfter}
 use Rattle.table.specs.Check.{Read, got, bad, _andThen_, wordIn, brokenStep, brokenNest, nothingHeld, stepSaid, stepIn, planIn, taskIn, tasksIn, tableRead, sound, refused, ended, checkOf}
 use Rattle.table.specs.Map.{stepsAt, behind}
 use Rattle.table.specs.Broken as breaks
-use Rattle.table.specs.Broken.{Broken, Outside, taskStart, stepStart, nIn, mIn, costIn, stepsIn, heldBefore}
+use Rattle.table.specs.Broken.{Broken, Outside, taskStart, stepStart, nIn, mIn, costIn, stepsIn, heldBefore, levelsBefore}
 use Rattle.table.proofs.Passed.{word-got, step-got, task-got, afterPlan, afterS, afterC, afterD, afterT}
 use Rattle.table.proofs.Laws.{afterTasks, afterM, afterN, table-passed, passed-valid, passed-words}
-use Rattle.table.proofs.Laid.{held-none, held-more}
+use Rattle.table.proofs.Laid.{held-none, held-more, levels-none, levels-more}
+use Rattle.table.proofs.Claimed.{Balanced, balanced-first, balanced-after, crowded-over}
 
 -- The first part of a reading is refused, or what comes behind it.
 either : {A B P : Type 0} (read : Read A) (then : A → ℕ → Read B) {number place : ℕ} → (read andThen then) ≡ bad number place → (read ≡ bad number place → P) →
@@ -54,11 +57,12 @@ word-breaks by least most ws at {number} {place} e out = go (ltb at (length ws))
 -- ---- a task
 
 module _ (ws : List ℕ) (i : ℕ) (there : i < nIn ws) where
-  step-breaks : (k : ℕ) → k < stepsIn ws i → {number place : ℕ} → stepIn (mIn ws) (costIn ws i) (heldBefore ws i k) ws (stepStart ws i k) ≡ bad number place →
-      Broken ws number place
+  step-breaks : (k : ℕ) → k < stepsIn ws i → (spare : List ℕ) → Balanced (levelsBefore ws i k) spare → {number place : ℕ} →
+      stepIn (mIn ws) (costIn ws i) (heldBefore ws i k) spare ws (stepStart ws i k) ≡ bad number place → Broken ws number place
   unfolding stepIn
-  step-breaks k h {number} {place} e =
-      go (leb (at + stepSize) (length ws)) refl (brokenStep (mIn ws) (costIn ws i) kind r l) refl (brokenNest (stepSaid kind r l) (heldBefore ws i k)) refl e
+  step-breaks k h spare balanced {number} {place} e =
+      go (leb (at + stepSize) (length ws)) refl (brokenStep (mIn ws) (costIn ws i) kind r l) refl (brokenNest (stepSaid kind r l) (heldBefore ws i k)) refl
+      (crowded (stepSaid kind r l) spare) refl e
     where
       at : ℕ
       at = stepStart ws i k
@@ -76,18 +80,22 @@ module _ (ws : List ℕ) (i : ℕ) (there : i < nIn ws) where
       lies x = record { task = there; step = h; there = leb-true (at + stepSize) (length ws) x }
 
       go : (a : Bool) → leb (at + stepSize) (length ws) ≡ a → (b : Bool) → brokenStep (mIn ws) (costIn ws i) kind r l ≡ b → (d : Bool) →
-          brokenNest (stepSaid kind r l) (heldBefore ws i k) ≡ d →
-          cond a (cond b (bad STEP at) (cond d (bad NEST at) (got (stepSaid kind r l) (at + stepSize)))) (bad SHORT (length ws)) ≡ bad number place → Broken ws number place
-      go false x b y d z e = names ws breaks.missing e
-      go true x true y d z e = names ws (breaks.step i k (lies x) y) e
-      go true x false y true z e = names ws (breaks.nest i k (lies x) z) e
-      go true x false y false z e = never (cc)
+          brokenNest (stepSaid kind r l) (heldBefore ws i k) ≡ d → (f : Bool) → crowded (stepSaid kind r l) spare ≡ f →
+          cond a (cond b (bad STEP at) (cond d (bad NEST at) (cond f (bad CROWDED at) (got (stepSaid kind r l) (at + stepSize))))) (bad SHORT (length ws)) ≡ bad number place →
+          Broken ws number place
+      go false x b y d z f w e = names ws breaks.missing e
+      go true x true y d z f w e = names ws (breaks.step i k (lies x) y) e
+      go true x false y true z f w e = names ws (breaks.nest i k (lies x) z) e
+      go true x false y false z true w e =
+          let full = crowded-over kind r l balanced w in
+          names ws (breaks.crowded i k (lies x) (full .locks) (full .over)) e
+      go true x false y false z false w e = never (cc)
 
   -- From step k on.
-  plan-breaks : (left k : ℕ) → k + left ≡ stepsIn ws i → {number place : ℕ} →
-      planIn left (mIn ws) (costIn ws i) (heldBefore ws i k) ws (stepStart ws i k) ≡ bad number place → Broken ws number place
+  plan-breaks : (left k : ℕ) → k + left ≡ stepsIn ws i → (spare : List ℕ) → Balanced (levelsBefore ws i k) spare → {number place : ℕ} →
+      planIn left (mIn ws) (costIn ws i) (heldBefore ws i k) spare ws (stepStart ws i k) ≡ bad number place → Broken ws number place
   unfolding planIn
-  plan-breaks zero k s {number} {place} e = ends (omega (arith, s)) (nothingHeld (heldBefore ws i k)) refl e
+  plan-breaks zero k s spare balanced {number} {place} e = ends (omega (arith, s)) (nothingHeld (heldBefore ws i k)) refl e
     where
       ends : k ≡ stepsIn ws i → (b : Bool) → nothingHeld (heldBefore ws i k) ≡ b →
           _≡_ {A = Read (List Step)} (cond b (got [] (stepStart ws i k)) (bad NEST (stepStart ws i k))) (bad number place) → Broken ws number place
@@ -95,24 +103,33 @@ module _ (ws : List ℕ) (i : ℕ) (there : i < nIn ws) where
       ends last false x e =
           let some : nothingHeld (heldBefore ws i (stepsIn ws i)) ≡ false = subst (λ (j : ℕ). nothingHeld (heldBefore ws i j) ≡ false) last x in
           names ws (subst (λ (j : ℕ). Broken ws NEST (stepStart ws i j)) (sym last) (breaks.holding i there some)) e
-  plan-breaks (suc left) k s {number} {place} e =
-      either (stepIn (mIn ws) (costIn ws i) (heldBefore ws i k) ws (stepStart ws i k))
-      (λ (x : Step) (next : ℕ). planIn left (mIn ws) (costIn ws i) (heldAfter x (heldBefore ws i k)) ws next andThen λ (xs : List Step) (end : ℕ). got (x ∷ xs) end) e
-      (λ stop. step-breaks k (omega (arith, s)) stop)
-      (λ x next g f. either (planIn left (mIn ws) (costIn ws i) (heldAfter x (heldBefore ws i k)) ws next) (λ (xs : List Step) (end : ℕ). got (x ∷ xs) end) f
-      (λ stop. plan-breaks left (suc k) (omega (arith, s)) (on x next g stop))
+  plan-breaks (suc left) k s spare balanced {number} {place} e =
+      either (stepIn (mIn ws) (costIn ws i) (heldBefore ws i k) spare ws (stepStart ws i k))
+      (λ (x : Step) (next : ℕ). planIn left (mIn ws) (costIn ws i) (heldAfter x (heldBefore ws i k)) (spareAfter x spare) ws next andThen λ (xs : List Step) (end : ℕ). got (x ∷ xs) end) e
+      (λ stop. step-breaks k (omega (arith, s)) spare balanced stop)
+      (λ x next g f. either (planIn left (mIn ws) (costIn ws i) (heldAfter x (heldBefore ws i k)) (spareAfter x spare) ws next) (λ (xs : List Step) (end : ℕ). got (x ∷ xs) end) f
+      (λ stop. plan-breaks left (suc k) (omega (arith, s)) (spareAfter x spare) (after x next g) (on x next g stop))
       (λ xs end g₂ f₂. never (cc)))
     where
-      on : (x : Step) (next : ℕ) → stepIn (mIn ws) (costIn ws i) (heldBefore ws i k) ws (stepStart ws i k) ≡ got x next →
-          planIn left (mIn ws) (costIn ws i) (heldAfter x (heldBefore ws i k)) ws next ≡ bad number place →
-          planIn left (mIn ws) (costIn ws i) (heldBefore ws i (suc k)) ws (stepStart ws i (suc k)) ≡ bad number place
+      on : (x : Step) (next : ℕ) → stepIn (mIn ws) (costIn ws i) (heldBefore ws i k) spare ws (stepStart ws i k) ≡ got x next →
+          planIn left (mIn ws) (costIn ws i) (heldAfter x (heldBefore ws i k)) (spareAfter x spare) ws next ≡ bad number place →
+          planIn left (mIn ws) (costIn ws i) (heldBefore ws i (suc k)) (spareAfter x spare) ws (stepStart ws i (suc k)) ≡ bad number place
       on x next g stop =
-          let q = step-got (mIn ws) (costIn ws i) (heldBefore ws i k) ws (stepStart ws i k) g in
+          let q = step-got (mIn ws) (costIn ws i) (heldBefore ws i k) spare ws (stepStart ws i k) g in
           let moved : next ≡ stepStart ws i (suc k) = omega (arith, q .place) in
           let holds : heldAfter x (heldBefore ws i k) ≡ heldBefore ws i (suc k) =
           ap (λ (y : Step). heldAfter y (heldBefore ws i k)) (q .value) ∙ sym (held-more ws (taskStart ws i + atPlan) k)
           in
-          subst₂ (λ (held : List Section) (at : ℕ). planIn left (mIn ws) (costIn ws i) held ws at ≡ bad number place) holds moved stop
+          subst₂ (λ (held : List Section) (at : ℕ). planIn left (mIn ws) (costIn ws i) held (spareAfter x spare) ws at ≡ bad number place) holds moved stop
+
+      after : (x : Step) (next : ℕ) → stepIn (mIn ws) (costIn ws i) (heldBefore ws i k) spare ws (stepStart ws i k) ≡ got x next →
+          Balanced (levelsBefore ws i (suc k)) (spareAfter x spare)
+      after x next g =
+          let q = step-got (mIn ws) (costIn ws i) (heldBefore ws i k) spare ws (stepStart ws i k) g in
+          let levels : levelsAfter x (levelsBefore ws i k) ≡ levelsBefore ws i (suc k) =
+          ap (λ (y : Step). levelsAfter y (levelsBefore ws i k)) (q .value) ∙ sym (levels-more (unclaimed (costIn ws i) ∷ []) ws (taskStart ws i + atPlan) k)
+          in
+          subst (λ (y : List Level). Balanced y (spareAfter x spare)) levels (balanced-after x balanced (q .fits))
 
   task-breaks : {number place : ℕ} → taskIn (mIn ws) ws (taskStart ws i) ≡ bad number place → Broken ws number place
   unfolding taskIn
@@ -129,8 +146,8 @@ module _ (ws : List ℕ) (i : ℕ) (there : i < nIn ws) where
       either (wordIn COUNT 0 mostSteps ws at₃) (afterS (mIn ws) ws t d c) e₃
       (λ stop. word-breaks COUNT 0 mostSteps ws (at + atSteps) (moved COUNT 0 mostSteps at₃ (at + atSteps) (omega (arith, wt .place, wd .place, wc .place)) stop) (λ out. breaks.steps i there out))
       (λ s at₄ g₄ e₄. let wn = word-got COUNT 0 mostSteps ws at₃ g₄ in
-      either (planIn s (mIn ws) c [] ws at₄) (afterPlan t d c) e₄
-      (λ stop. plan-breaks (stepsIn ws i) zero (omega arith)
+      either (planIn s (mIn ws) c [] (c ∷ []) ws at₄) (afterPlan t d c) e₄
+      (λ stop. plan-breaks (stepsIn ws i) zero (omega arith) (costIn ws i ∷ []) first
       (from s c at₄
       (wn .value ∙ ap (λ (j : ℕ). getD ws j 0) (omega (arith, wt .place, wd .place, wc .place)))
       (wc .value ∙ ap (λ (j : ℕ). getD ws j 0) (omega (arith, wt .place, wd .place)))
@@ -140,11 +157,14 @@ module _ (ws : List ℕ) (i : ℕ) (there : i < nIn ws) where
       at : ℕ
       at = taskStart ws i
 
+      first : Balanced (levelsBefore ws i zero) (costIn ws i ∷ [])
+      first = rw (levels-none (unclaimed (costIn ws i) ∷ []) ws (taskStart ws i + atPlan)) (balanced-first (costIn ws i))
+
       moved : (by least most x y : ℕ) → x ≡ y → wordIn by least most ws x ≡ bad number place → wordIn by least most ws y ≡ bad number place
       moved by least most x y q stop = subst (λ (z : ℕ). wordIn by least most ws z ≡ bad number place) q stop
 
-      from : (s c at₄ : ℕ) → s ≡ stepsIn ws i → c ≡ costIn ws i → at₄ ≡ stepStart ws i zero → planIn s (mIn ws) c [] ws at₄ ≡ bad number place →
-          planIn (stepsIn ws i) (mIn ws) (costIn ws i) (heldBefore ws i zero) ws (stepStart ws i zero) ≡ bad number place
+      from : (s c at₄ : ℕ) → s ≡ stepsIn ws i → c ≡ costIn ws i → at₄ ≡ stepStart ws i zero → planIn s (mIn ws) c [] (c ∷ []) ws at₄ ≡ bad number place →
+          planIn (stepsIn ws i) (mIn ws) (costIn ws i) (heldBefore ws i zero) (costIn ws i ∷ []) ws (stepStart ws i zero) ≡ bad number place
       from s c at₄ es ec ea stop = rw (held-none ws (taskStart ws i + atPlan), ← es, ← ec, ← ea) stop
 
 -- ---- the tasks

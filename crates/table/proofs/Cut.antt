@@ -14,6 +14,7 @@ use Rattle.numbers.specs.Answers.{RANGE, COUNT}
 use Rattle.table.specs.Limits.{mostTasks, mostResources, mostTicks, mostSteps, room, atTasks, atPlan, stepSize, atResource, atLength}
 use Rattle.table.specs.Table.{Step, Task, Table}
 use Rattle.table.specs.Held.{Section, heldAfter}
+use Rattle.table.specs.Spare.{spareAfter}
 use Rattle.table.specs.Check.{Read, got, bad, _andThen_, wordIn, stepIn, planIn, taskIn, tasksIn, tableRead, ended, checkOf}
 use Rattle.table.specs.Said.{findingSaid, checkSaid}
 use Rattle.table.proofs.Passed.{both, got-place, word-got, step-got, task-got, tasks-got, afterPlan, afterS, afterC, afterD, afterT}
@@ -34,9 +35,9 @@ module _ (k : ℕ) (ws vs : List ℕ) (long : k ≤ length ws) (far : k ≤ leng
   unfolding wordIn
   word-same number least most at h = rw (lt-ltb at (length ws) (omega arith), lt-ltb at (length vs) (omega arith), agree at h)
 
-  step-same : (m c : ℕ) (held : List Section) (at : ℕ) → at + stepSize ≤ k → stepIn m c held ws at ≡ stepIn m c held vs at
+  step-same : (m c : ℕ) (held : List Section) (spare : List ℕ) (at : ℕ) → at + stepSize ≤ k → stepIn m c held spare ws at ≡ stepIn m c held spare vs at
   unfolding stepIn
-  step-same m c held at h = rw (
+  step-same m c held spare at h = rw (
     le-leb (at + stepSize) (length ws) (omega arith),
     le-leb (at + stepSize) (length vs) (omega arith),
     agree at (omega arith),
@@ -44,16 +45,17 @@ module _ (k : ℕ) (ws vs : List ℕ) (long : k ≤ length ws) (far : k ≤ leng
     agree (at + atLength) (omega arith),
   )
 
-  plan-same : (left m c : ℕ) (held : List Section) (at : ℕ) → at + stepSize * left ≤ k → planIn left m c held ws at ≡ planIn left m c held vs at
+  plan-same : (left m c : ℕ) (held : List Section) (spare : List ℕ) (at : ℕ) → at + stepSize * left ≤ k →
+      planIn left m c held spare ws at ≡ planIn left m c held spare vs at
   unfolding planIn
-  plan-same zero m c held at h = refl
-  plan-same (suc left) m c held at h =
-      then-same (stepIn m c held ws at) (stepIn m c held vs at)
-      (λ (step : Step) (next : ℕ). planIn left m c (heldAfter step held) ws next andThen λ (steps : List Step) (end : ℕ). got (step ∷ steps) end)
-      (λ (step : Step) (next : ℕ). planIn left m c (heldAfter step held) vs next andThen λ (steps : List Step) (end : ℕ). got (step ∷ steps) end)
-      (step-same m c held at (omega arith))
+  plan-same zero m c held spare at h = refl
+  plan-same (suc left) m c held spare at h =
+      then-same (stepIn m c held spare ws at) (stepIn m c held spare vs at)
+      (λ (step : Step) (next : ℕ). planIn left m c (heldAfter step held) (spareAfter step spare) ws next andThen λ (steps : List Step) (end : ℕ). got (step ∷ steps) end)
+      (λ (step : Step) (next : ℕ). planIn left m c (heldAfter step held) (spareAfter step spare) vs next andThen λ (steps : List Step) (end : ℕ). got (step ∷ steps) end)
+      (step-same m c held spare at (omega arith))
       (λ step next e. ap (λ (r : Read (List Step)). r andThen λ (steps : List Step) (end : ℕ). got (step ∷ steps) end)
-      (plan-same left m c (heldAfter step held) next (omega (arith, step-got m c held vs at e .place))))
+      (plan-same left m c (heldAfter step held) (spareAfter step spare) next (omega (arith, step-got m c held spare vs at e .place))))
 
   task-same : (m at : ℕ) → at + (atPlan + mostSteps * stepSize) ≤ k → taskIn m ws at ≡ taskIn m vs at
   unfolding taskIn
@@ -67,7 +69,7 @@ module _ (k : ℕ) (ws vs : List ℕ) (long : k ≤ length ws) (far : k ≤ leng
       then-same (wordIn COUNT 0 mostSteps ws at₃) (wordIn COUNT 0 mostSteps vs at₃) (afterS m ws t d c) (afterS m vs t d c) (word-same COUNT 0 mostSteps at₃ (omega (arith, t-got .place, d-got .place, c-got .place)))
       (λ s at₄ e₄. let s-got = word-got COUNT 0 mostSteps vs at₃ e₄ in
       ap (λ (r : Read (List Step)). r andThen afterPlan t d c)
-      (plan-same s m c [] at₄ (omega (arith, t-got .place, d-got .place, c-got .place, s-got .place, s-got .high)))))))
+      (plan-same s m c [] (c ∷ []) at₄ (omega (arith, t-got .place, d-got .place, c-got .place, s-got .place, s-got .high)))))))
 
   tasks-same : (left m at : ℕ) → at + left * (atPlan + mostSteps * stepSize) ≤ k → tasksIn left m ws at ≡ tasksIn left m vs at
   unfolding tasksIn

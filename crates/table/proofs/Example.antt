@@ -5,7 +5,7 @@ use mathlib.Core.List.{List, [], _∷_}
 use Prim.Native.Nat.{ℕ}
 use Rattle.table.specs.Table.{lock, unlock, Table}
 use Rattle.table.specs.Check.{sound, refused, checkOf, wordIn, stepIn, planIn, taskIn, tasksIn}
-use Rattle.numbers.specs.Answers.{SHORT, COUNT, RANGE, STEP, NEST}
+use Rattle.numbers.specs.Answers.{SHORT, COUNT, RANGE, STEP, NEST, CROWDED}
 use Rattle.table.specs.Held.{holds}
 use Rattle.table.specs.Floor.{locks, deadlinesOf, least, floorOf}
 use Rattle.table.specs.Valid.{Valid}
@@ -62,3 +62,18 @@ step = refl
 nest : checkOf (1 ∷ 1 ∷ 20 ∷ 10 ∷ 3 ∷ 1 ∷ 1 ∷ 0 ∷ 1 ∷ []) ≡ refused NEST 9
 unfolding checkOf wordIn stepIn planIn taskIn tasksIn
 nest = refl
+
+-- Two sections of 2 one after the other, where C is 3: the second goes over.
+crowded : checkOf (1 ∷ 1 ∷ 20 ∷ 10 ∷ 3 ∷ 4 ∷ 1 ∷ 0 ∷ 2 ∷ 2 ∷ 0 ∷ 0 ∷ 1 ∷ 0 ∷ 2 ∷ 2 ∷ 0 ∷ 0 ∷ []) ≡ refused CROWDED 12
+unfolding checkOf wordIn stepIn planIn taskIn tasksIn
+crowded = refl
+
+-- Two of 2 directly inside one of 3: counted against it, and not against C, which is 9.
+crowded-inside : checkOf (1 ∷ 2 ∷ 20 ∷ 10 ∷ 9 ∷ 6 ∷ 1 ∷ 0 ∷ 3 ∷ 1 ∷ 1 ∷ 2 ∷ 2 ∷ 0 ∷ 0 ∷ 1 ∷ 1 ∷ 2 ∷ []) ≡ refused CROWDED 15
+unfolding checkOf wordIn stepIn planIn taskIn tasksIn holds
+crowded-inside = refl
+
+-- The same with 2 and 1, which fill the 3: what is missing then is only a word.
+filled : checkOf (1 ∷ 2 ∷ 20 ∷ 10 ∷ 9 ∷ 6 ∷ 1 ∷ 0 ∷ 3 ∷ 1 ∷ 1 ∷ 2 ∷ 2 ∷ 0 ∷ 0 ∷ 1 ∷ 1 ∷ 1 ∷ []) ≡ refused SHORT 18
+unfolding checkOf wordIn stepIn planIn taskIn tasksIn holds
+filled = refl

@@ -6,18 +6,18 @@ use mathlib.Core.Path.{_≡_, refl, ap, subst}
 use mathlib.Core.List.{List, [], _∷_}
 use denote.Enum.Declared
 use types.Run.{OneOf, miss}
-use Rattle.numbers.specs.Answers.{SHORT, COUNT, RANGE, STEP, NEST}
+use Rattle.numbers.specs.Answers.{SHORT, COUNT, RANGE, STEP, NEST, CROWDED}
 use Rattle.numbers.proofs.Tests.{never}
 use Rattle.table.specs.Said.{passes, says, saidOf, Surveyed, surveySaid, surveyOf, checkSaid}
 use Rattle.table.specs.Map.{mapOf}
 use Rattle.table.specs.declared.Finding.{Finding}
-use Rattle.table.specs.declared.Finding.the-variants.{Sound, Short, Count, Range, Step, Nest}
+use Rattle.table.specs.declared.Finding.the-variants.{Sound, Short, Count, Range, Step, Nest, Crowded}
 use Rattle.table.specs.declared.Survey.{Survey}
 use Rattle.table.proofs.Finding as finding
 
 -- Of the cases, the code's test tells the first from the others.
 abbrev pub others : List ℕ
-others = 1 ∷ 2 ∷ 3 ∷ 4 ∷ 5 ∷ []
+others = 1 ∷ 2 ∷ 3 ∷ 4 ∷ 5 ∷ 6 ∷ []
 
 pub not-sound : (found : Finding) → OneOf others (Declared.tagOf finding.the-type found) → found ≡ Sound → ⊥
 not-sound found told e = miss others 0 tt (subst (λ (f : Finding). OneOf others (Declared.tagOf finding.the-type f)) e told)
@@ -34,6 +34,7 @@ refusal (Count place) n = record { number = COUNT; place = place; said = refl }
 refusal (Range place) n = record { number = RANGE; place = place; said = refl }
 refusal (Step place) n = record { number = STEP; place = place; said = refl }
 refusal (Nest place) n = record { number = NEST; place = place; said = refl }
+refusal (Crowded place) n = record { number = CROWDED; place = place; said = refl }
 
 pub is-sound : (found : Finding) → saidOf found ≡ passes → found ≡ Sound
 is-sound Sound e = refl
@@ -42,6 +43,7 @@ is-sound (Count place) e = never (cc)
 is-sound (Range place) e = never (cc)
 is-sound (Step place) e = never (cc)
 is-sound (Nest place) e = never (cc)
+is-sound (Crowded place) e = never (cc)
 
 -- A survey's promise tells what its finding says, and its map.
 pub survey-said : (survey : Survey) (ws : List ℕ) → surveySaid survey ≡ surveyOf ws → saidOf (survey .finding) ≡ checkSaid ws

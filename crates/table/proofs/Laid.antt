@@ -1,4 +1,4 @@
--- The steps of a plan as they lie (`stepsAt`), one by one, and what they hold with one step more. Assumes nothing.
+-- The steps of a plan as they lie (`stepsAt`), one by one, and what they hold, and which levels are open, with one step more. Assumes nothing.
 use Prim.Native.Nat.{ℕ, zero, suc, _+_, _*_, _<_}
 use mathlib.Core.Path.{_≡_, refl, ap, _∙_}
 use mathlib.Core.List.{List, [], _∷_, _++_}
@@ -8,6 +8,7 @@ use lib.ListN.{length, getD}
 use Rattle.table.specs.Limits.{stepSize, atResource, atLength}
 use Rattle.table.specs.Table.{Step, unlock}
 use Rattle.table.specs.Held.{Section, heldAfter, heldFrom}
+use Rattle.table.specs.Claims.{Level, levelsAfter, levelsFrom}
 use Rattle.table.specs.Check.{stepSaid}
 use Rattle.table.specs.Map.{stepsAt}
 
@@ -37,6 +38,11 @@ unfolding heldFrom
 held-append held [] s = refl
 held-append held (q ∷ steps) s = held-append (heldAfter q held) steps s
 
+levels-append : (levels : List Level) (steps : List Step) (s : Step) → levelsFrom levels (steps ++ (s ∷ [])) ≡ levelsAfter s (levelsFrom levels steps)
+unfolding levelsFrom
+levels-append levels [] s = refl
+levels-append levels (q ∷ steps) s = levels-append (levelsAfter q levels) steps s
+
 steps-snoc : (n : ℕ) (ws : List ℕ) (at : ℕ) → stepsAt (suc n) ws at ≡ stepsAt n ws at ++ (stepAt ws (at + stepSize * n) ∷ [])
 unfolding stepsAt
 steps-snoc zero ws at =
@@ -53,3 +59,12 @@ held-none ws at = refl
 
 pub held-more : (ws : List ℕ) (at n : ℕ) → heldFrom [] (stepsAt (suc n) ws at) ≡ heldAfter (stepAt ws (at + stepSize * n)) (heldFrom [] (stepsAt n ws at))
 held-more ws at n = ap (heldFrom []) (steps-snoc n ws at) ∙ held-append [] (stepsAt n ws at) (stepAt ws (at + stepSize * n))
+
+-- And the levels that they leave open.
+pub levels-none : (levels : List Level) (ws : List ℕ) (at : ℕ) → levelsFrom levels (stepsAt zero ws at) ≡ levels
+unfolding stepsAt levelsFrom
+levels-none levels ws at = refl
+
+pub levels-more : (levels : List Level) (ws : List ℕ) (at n : ℕ) →
+    levelsFrom levels (stepsAt (suc n) ws at) ≡ levelsAfter (stepAt ws (at + stepSize * n)) (levelsFrom levels (stepsAt n ws at))
+levels-more levels ws at n = ap (levelsFrom levels) (steps-snoc n ws at) ∙ levels-append levels (stepsAt n ws at) (stepAt ws (at + stepSize * n))

@@ -1,6 +1,7 @@
 -- The laws of tables.
 pub mod Findings
 pub mod Plans
+pub mod Claimed
 pub mod Floors
 pub mod Padded
 pub mod Passed

@@ -15,11 +15,14 @@ use borrow.Author.Tests.{ltb-true, ltb-false, leb-true, leb-false, eqb-true, not
 use Rattle.table.specs.Limits.{mostTicks, mostSteps, mostHeld, atPeriod, atDeadline, atCost, atSteps, atPlan, stepSize, atResource, atLength}
 use Rattle.table.specs.Table.{Step, unlock, Task, noTask}
 use Rattle.table.specs.Held.{Section, heldAfter, holds}
+use Rattle.table.specs.Spare.{spareAfter, crowded}
+use Rattle.table.specs.Claims.{Level, unclaimed, levelsAfter, Fitting, finishes}
 use Rattle.table.specs.Check.{Read, got, bad, _andThen_, wordIn, brokenStep, brokenLock, nothingHeld, brokenNest, stepSaid, stepIn, planIn, taskIn, tasksIn}
-use Rattle.numbers.specs.Answers.{RANGE, COUNT, SHORT, STEP, NEST}
+use Rattle.numbers.specs.Answers.{RANGE, COUNT, SHORT, STEP, NEST, CROWDED}
 use Rattle.table.specs.Valid.{Allowed, Nested, ends, locks, unlocks, ValidTask}
 use Rattle.table.specs.Map.{stepsAt, taskAt, tasksAt, behind, startsFrom}
 use Rattle.table.specs.Words.{stepWords, planWords, taskWords, tasksWords}
+use Rattle.table.proofs.Claimed.{Balanced, balanced-first, balanced-after, fits-more}
 use Rattle.numbers.proofs.Tests.{never, or-false-left, or-false-right, and-left, and-right}
 
 -- ---- reads in a row
@@ -139,27 +142,30 @@ drop-three ws at h =
     rw (add-one, add-two, add-three)
     (rw (drop-cons ws at 0 (omega arith), drop-cons ws (suc at) 0 (omega arith), drop-cons ws (suc (suc at)) 0 (omega arith)))
 
-pub record StepGot (m c : ℕ) (held : List Section) (ws : List ℕ) (at : ℕ) (step : Step) (next : ℕ) : Type 0 where
+pub record StepGot (m c : ℕ) (held : List Section) (spare ws : List ℕ) (at : ℕ) (step : Step) (next : ℕ) : Type 0 where
   pub there : at + stepSize ≤ length ws
   pub value : step ≡ stepSaid (getD ws at 0) (getD ws (at + atResource) 0) (getD ws (at + atLength) 0)
   pub place : next ≡ at + stepSize
   pub nests : (steps : List Step) → Nested m c (heldAfter step held) steps → Nested m c held (step ∷ steps)
+  pub fits : crowded step spare ≡ false
   pub words : drop at ws ≡ stepWords step ++ drop next ws
 
-pub step-got : (m c : ℕ) (held : List Section) (ws : List ℕ) (at : ℕ) {step : Step} {next : ℕ} → stepIn m c held ws at ≡ got step next →
-    StepGot m c held ws at step next
+pub step-got : (m c : ℕ) (held : List Section) (spare ws : List ℕ) (at : ℕ) {step : Step} {next : ℕ} → stepIn m c held spare ws at ≡ got step next →
+    StepGot m c held spare ws at step next
 unfolding stepIn
-step-got m c held ws at {step} {next} e =
+step-got m c held spare ws at {step} {next} e =
     let kind = getD ws at 0 in
     let r = getD ws (at + atResource) 0 in
     let l = getD ws (at + atLength) 0 in
     let said′ = stepSaid kind r l in
-    let nest = cond (brokenNest said′ held) (bad NEST at) (got said′ (at + stepSize)) in
+    let fit = cond (crowded said′ spare) (bad CROWDED at) (got said′ (at + stepSize)) in
+    let nest = cond (brokenNest said′ held) (bad NEST at) fit in
     let here = passed (leb (at + stepSize) (length ws)) (cond (brokenStep m c kind r l) (bad STEP at) nest) SHORT (length ws) e in
     let whole = failed (brokenStep m c kind r l) nest STEP at (here .1) in
-    let nested = failed (brokenNest said′ held) (got said′ (at + stepSize)) NEST at (whole .1) in
-    let value : step ≡ said′ = sym (got-value (nested .1)) in
-    let place : next ≡ at + stepSize = sym (got-place (nested .1)) in
+    let nested = failed (brokenNest said′ held) fit NEST at (whole .1) in
+    let fitted = failed (crowded said′ spare) (got said′ (at + stepSize)) CROWDED at (nested .1) in
+    let value : step ≡ said′ = sym (got-value (fitted .1)) in
+    let place : next ≡ at + stepSize = sym (got-place (fitted .1)) in
     let there : at + stepSize ≤ length ws = leb-true (at + stepSize) (length ws) (here .0) in
     let fine : Said m c held kind r l = said m c held kind r l (whole .0) (nested .0) in
     record {
@@ -167,28 +173,30 @@ step-got m c held ws at {step} {next} e =
       value = value;
       place = place;
       nests = rw value (fine .nests);
+      fits = rw value (fitted .0);
       words = rw (value, place) (drop-three ws at there ∙ ap (λ (w : List ℕ). w ++ drop (at + stepSize) ws) (sym (fine .words)));
     }
 
 -- ---- a plan
 
-pub record PlanGot (left m c : ℕ) (held : List Section) (ws : List ℕ) (at : ℕ) (steps : List Step) (end : ℕ) : Type 0 where
+pub record PlanGot (left m c : ℕ) (held : List Section) (spare ws : List ℕ) (at : ℕ) (steps : List Step) (end : ℕ) : Type 0 where
   pub value : steps ≡ stepsAt left ws at
   pub place : end ≡ at + stepSize * left
   pub there : at ≤ length ws → end ≤ length ws
   pub count : length steps ≡ left
   pub nests : Nested m c held steps
+  pub fits : (levels : List Level) → Balanced levels spare → Fitting levels steps
   pub words : drop at ws ≡ planWords steps ++ drop end ws
 
 nothing-nested : (m c : ℕ) (held : List Section) → nothingHeld held ≡ true → Nested m c held []
 nothing-nested m c [] e = ends
 nothing-nested m c (s ∷ held) e = never (cc)
 
-plan-more : {left m c : ℕ} {held : List Section} {ws : List ℕ} {at : ℕ} {step : Step} {next : ℕ} {rest : List Step} {end : ℕ} →
-    StepGot m c held ws at step next → PlanGot left m c (heldAfter step held) ws next rest end →
-    PlanGot (suc left) m c held ws at (step ∷ rest) end
+plan-more : {left m c : ℕ} {held : List Section} {spare ws : List ℕ} {at : ℕ} {step : Step} {next : ℕ} {rest : List Step} {end : ℕ} →
+    StepGot m c held spare ws at step next → PlanGot left m c (heldAfter step held) (spareAfter step spare) ws next rest end →
+    PlanGot (suc left) m c held spare ws at (step ∷ rest) end
 unfolding stepsAt planWords
-plan-more {left} {m} {c} {held} {ws} {at} {step} {next} {rest} {end} s p =
+plan-more {left} {m} {c} {held} {spare} {ws} {at} {step} {next} {rest} {end} s p =
     let place : next ≡ at + stepSize = s .place in
     record {
       value = ap₂ {C = List Step} (λ (x : Step) (xs : List Step). x ∷ xs) (s .value) (p .value ∙ ap (stepsAt left ws) place);
@@ -196,13 +204,14 @@ plan-more {left} {m} {c} {held} {ws} {at} {step} {next} {rest} {end} s p =
       there = λ (h : at ≤ length ws). p .there (rw place (s .there));
       count = ap suc (p .count);
       nests = s .nests rest (p .nests);
+      fits = λ (levels : List Level) (b : Balanced levels spare). fits-more step b (s .fits) (p .fits (levelsAfter step levels) (balanced-after step b (s .fits)));
       words = s .words ∙ ap (λ (x : List ℕ). stepWords step ++ x) (p .words) ∙ sym (append-assoc (stepWords step) (planWords rest) (drop end ws));
     }
 
-pub plan-got : (left m c : ℕ) (held : List Section) (ws : List ℕ) (at : ℕ) {steps : List Step} {end : ℕ} →
-    planIn left m c held ws at ≡ got steps end → PlanGot left m c held ws at steps end
+pub plan-got : (left m c : ℕ) (held : List Section) (spare ws : List ℕ) (at : ℕ) {steps : List Step} {end : ℕ} →
+    planIn left m c held spare ws at ≡ got steps end → PlanGot left m c held spare ws at steps end
 unfolding planIn stepsAt planWords
-plan-got zero m c held ws at {steps} {end} e =
+plan-got zero m c held spare ws at {steps} {end} e =
     let last = passed (nothingHeld held) (got [] at) NEST at e in
     let none : steps ≡ [] = sym (got-value (last .1)) in
     let place : end ≡ at = sym (got-place (last .1)) in
@@ -212,14 +221,15 @@ plan-got zero m c held ws at {steps} {end} e =
       there = λ (h : at ≤ length ws). omega arith;
       count = rw none;
       nests = rw none (nothing-nested m c held (last .0));
+      fits = rw none (λ (levels : List Level) (b : Balanced levels spare). finishes);
       words = rw (none, place);
     }
-plan-got (suc left) m c held ws at {steps} {end} e =
-    both (stepIn m c held ws at)
-    (λ (step : Step) (next : ℕ). _andThen_ (planIn left m c (heldAfter step held) ws next) (λ (rest : List Step) (last : ℕ). got (step ∷ rest) last)) e
-    (λ step next e₁ e₂. both (planIn left m c (heldAfter step held) ws next) (λ (rest : List Step) (last : ℕ). got (step ∷ rest) last) e₂
-    (λ rest last e₃ e₄. subst₂ (PlanGot (suc left) m c held ws at) (got-value e₄) (got-place e₄)
-    (plan-more (step-got m c held ws at e₁) (plan-got left m c (heldAfter step held) ws next e₃))))
+plan-got (suc left) m c held spare ws at {steps} {end} e =
+    both (stepIn m c held spare ws at)
+    (λ (step : Step) (next : ℕ). _andThen_ (planIn left m c (heldAfter step held) (spareAfter step spare) ws next) (λ (rest : List Step) (last : ℕ). got (step ∷ rest) last)) e
+    (λ step next e₁ e₂. both (planIn left m c (heldAfter step held) (spareAfter step spare) ws next) (λ (rest : List Step) (last : ℕ). got (step ∷ rest) last) e₂
+    (λ rest last e₃ e₄. subst₂ (PlanGot (suc left) m c held spare ws at) (got-value e₄) (got-place e₄)
+    (plan-more (step-got m c held spare ws at e₁) (plan-got left m c (heldAfter step held) (spareAfter step spare) ws next e₃))))
 
 -- ---- a task
 
@@ -228,7 +238,7 @@ abbrev pub afterPlan : ℕ → ℕ → ℕ → List Step → ℕ → Read Task
 afterPlan t d c plan next = got (record { T = t; D = d; C = c; plan = plan }) next
 
 abbrev pub afterS : ℕ → List ℕ → ℕ → ℕ → ℕ → ℕ → ℕ → Read Task
-afterS m ws t d c s at₄ = planIn s m c [] ws at₄ andThen afterPlan t d c
+afterS m ws t d c s at₄ = planIn s m c [] (c ∷ []) ws at₄ andThen afterPlan t d c
 
 abbrev pub afterC : ℕ → List ℕ → ℕ → ℕ → ℕ → ℕ → Read Task
 afterC m ws t d c at₃ = wordIn COUNT 0 mostSteps ws at₃ andThen afterS m ws t d c
@@ -248,7 +258,7 @@ pub record TaskGot (m : ℕ) (ws : List ℕ) (at : ℕ) (task : Task) (next : �
   pub words : drop at ws ≡ taskWords task ++ drop next ws
 
 task-of : {m : ℕ} {ws : List ℕ} {at t at₁ d at₂ c at₃ s at₄ : ℕ} {plan : List Step} {next : ℕ} → Word 1 mostTicks ws at t at₁ →
-    Word 1 mostTicks ws at₁ d at₂ → Word 1 mostTicks ws at₂ c at₃ → Word 0 mostSteps ws at₃ s at₄ → PlanGot s m c [] ws at₄ plan next →
+    Word 1 mostTicks ws at₁ d at₂ → Word 1 mostTicks ws at₂ c at₃ → Word 0 mostSteps ws at₃ s at₄ → PlanGot s m c [] (c ∷ []) ws at₄ plan next →
     TaskGot m ws at (record { T = t; D = d; C = c; plan = plan }) next
 unfolding taskAt taskWords
 task-of {m} {ws} {at} {t} {at₁} {d} {at₂} {c} {at₃} {s} {at₄} {plan} {next} wt wd wc wn p =
@@ -280,6 +290,7 @@ task-of {m} {ws} {at} {t} {at₁} {d} {at₂} {c} {at₃} {s} {at₄} {plan} {ne
         C-most = wc .high;
         steps = rw (p .count) (wn .high);
         nested = p .nests;
+        fitting = p .fits (unclaimed c ∷ []) (balanced-first c);
       };
       words = rw (wt .words, wd .words, wc .words, wn .words, p .words, p .count);
     }
@@ -291,10 +302,10 @@ task-got m ws at {task} {next} e =
     (λ t at₁ t-got e₁. both (wordIn RANGE 1 mostTicks ws at₁) (afterD m ws t) e₁
     (λ d at₂ d-got e₂. both (wordIn RANGE 1 mostTicks ws at₂) (afterC m ws t d) e₂
     (λ c at₃ c-got e₃. both (wordIn COUNT 0 mostSteps ws at₃) (afterS m ws t d c) e₃
-    (λ s at₄ s-got e₄. both (planIn s m c [] ws at₄) (afterPlan t d c) e₄
+    (λ s at₄ s-got e₄. both (planIn s m c [] (c ∷ []) ws at₄) (afterPlan t d c) e₄
     (λ plan next p-got e₅. subst₂ (TaskGot m ws at) (got-value e₅) (got-place e₅)
     (task-of (word-got RANGE 1 mostTicks ws at t-got) (word-got RANGE 1 mostTicks ws at₁ d-got) (word-got RANGE 1 mostTicks ws at₂ c-got)
-    (word-got COUNT 0 mostSteps ws at₃ s-got) (plan-got s m c [] ws at₄ p-got)))))))
+    (word-got COUNT 0 mostSteps ws at₃ s-got) (plan-got s m c [] (c ∷ []) ws at₄ p-got)))))))
 
 -- ---- the tasks
 

@@ -3,7 +3,7 @@
 use Prim.Native.Nat.{ℕ, zero, suc, _+_, _*_, _≤_, _<_}
 use mathlib.Core.Path.{_≡_, refl, sym, ap, subst, _∙_}
 use mathlib.Core.Bool.{Bool, true, false, not, cond, _&&_}
-use mathlib.Core.List.{List, []}
+use mathlib.Core.List.{List, [], _∷_}
 use native.Mathlib.Omega.{arith}
 use lib.Dec.{ltb, leb, eqb}
 use lib.ListN.{length, getD}
@@ -11,14 +11,16 @@ use borrow.Author.Tests.{ltb-true, leb-true, leb-false, le-ltb, lt-ltb, le-leb, 
 use Rattle.numbers.specs.Answers.{SHORT, COUNT, RANGE, NEST}
 use Rattle.numbers.proofs.Tests.{never}
 use Rattle.table.specs.Limits.{mostTicks, mostSteps, atPeriod, atDeadline, atCost, atSteps, atPlan, stepSize, atResource, atLength}
-use Rattle.table.specs.Table.{Task}
-use Rattle.table.specs.Held.{Section, heldAfter}
+use Rattle.table.specs.Table.{Step, Task}
+use Rattle.table.specs.Held.{Section}
+use Rattle.table.specs.Spare.{crowded}
 use Rattle.table.specs.Check.{Read, got, bad, _andThen_, wordIn, brokenStep, stepSaid, brokenNest, stepIn, planIn, taskIn, tasksIn, nothingHeld}
 use Rattle.table.specs.Said.{says, saidOf}
-use Rattle.table.specs.Walk.{endOf, stoppedBy, wordOf, stoppedOf, sectionsIn, heldBehind, Fair, Leaves, HeadJudged, StepJudged, WalkJudged}
+use Rattle.table.specs.Walk.{endOf, stoppedBy, wordOf, stoppedOf, sectionsIn, spareIn, Standing, standingIn, standingAfter, standingBehind, planFrom, Fair, Leaves, HeadJudged, StepJudged, WalkJudged}
 use Rattle.table.specs.Map.{behind}
 use Rattle.table.specs.declared.Finding.{Finding}
-use Rattle.table.specs.declared.Finding.the-variants.{Sound, Short, Range, Count, Step, Nest}
+use Rattle.table.specs.declared.Finding.the-variants.{Sound, Short, Nest, Crowded}
+use Rattle.table.specs.declared.Finding.the-variants as finding
 use Rattle.table.specs.declared.words.Word.{Word}
 use Rattle.table.specs.declared.words.Head.{Head}
 use Rattle.table.specs.declared.sections.Sections.{Sections}
@@ -55,7 +57,7 @@ module _ (m c : ℕ) (sections : Sections) (ws : List ℕ) (at : ℕ) (fair : Fa
 
   module _ (h : at + stepSize ≤ length ws) where
     pub step-broken : (t : Bool) → t ≡ brokenStep m c (getD ws at 0) (getD ws (at + atResource) 0) (getD ws (at + atLength) 0) → t ≡ true →
-        StepJudged m c sections ws at (record { finding = Step at; sections = sections })
+        StepJudged m c sections ws at (record { finding = finding.Step at; sections = sections })
     unfolding stepIn
     step-broken t e q = record {
       reads = rw (le-leb (at + stepSize) (length ws) h, ← e, q);
@@ -73,15 +75,25 @@ module _ (m c : ℕ) (sections : Sections) (ws : List ℕ) (at : ℕ) (fair : Fa
         fair = fair;
       }
 
-      pub step-goes : (after : Sections) (u : Bool) → u ≡ brokenNest (stepSaid (getD ws at 0) (getD ws (at + atResource) 0) (getD ws (at + atLength) 0)) (sectionsIn sections) → u ≡ false →
-          Leaves (heldAfter (stepSaid (getD ws at 0) (getD ws (at + atResource) 0) (getD ws (at + atLength) 0)) (sectionsIn sections)) after →
-          StepJudged m c sections ws at (record { finding = Sound; sections = after })
-      unfolding stepIn
-      step-goes after u n v l = record {
-        reads = rw (le-leb (at + stepSize) (length ws) h, ← e, q, ← n, v, l .held-is);
-        room = λ e. h;
-        fair = l .fair;
-      }
+      module _ (u : Bool) (n : u ≡ brokenNest (stepSaid (getD ws at 0) (getD ws (at + atResource) 0) (getD ws (at + atLength) 0)) (sectionsIn sections)) (v : u ≡ false) where
+        pub step-crowded : (x : Bool) → x ≡ crowded (stepSaid (getD ws at 0) (getD ws (at + atResource) 0) (getD ws (at + atLength) 0)) (spareIn sections) → x ≡ true →
+            StepJudged m c sections ws at (record { finding = Crowded at; sections = sections })
+        unfolding stepIn
+        step-crowded x f y = record {
+          reads = rw (le-leb (at + stepSize) (length ws) h, ← e, q, ← n, v, ← f, y);
+          room = λ e. never (cc);
+          fair = fair;
+        }
+
+        pub step-goes : (after : Sections) (x : Bool) → x ≡ crowded (stepSaid (getD ws at 0) (getD ws (at + atResource) 0) (getD ws (at + atLength) 0)) (spareIn sections) → x ≡ false →
+            Leaves (standingAfter (stepSaid (getD ws at 0) (getD ws (at + atResource) 0) (getD ws (at + atLength) 0)) (standingIn sections)) after →
+            StepJudged m c sections ws at (record { finding = Sound; sections = after })
+        unfolding stepIn
+        step-goes after x f y l = record {
+          reads = rw (le-leb (at + stepSize) (length ws) h, ← e, q, ← n, v, ← f, y, l .stands);
+          room = λ e. h;
+          fair = l .fair;
+        }
 
 -- A lock that is sound as a step is of a resource below m.
 pub lock-below : (m c kind r l : ℕ) (t : Bool) → kind ≡ 1 → t ≡ brokenStep m c kind r l → t ≡ false → r < m
@@ -94,38 +106,41 @@ lock-below m c kind r l t k e f = go (ltb r m) refl (simp (eq-eqb kind 1 k) at (
         omega arith
 
 -- A step that is sound leads to the rest of the plan, and one that is not ends it.
-module _ (left m c : ℕ) (held : List Section) (ws : List ℕ) (at : ℕ) where
-  pub plan-goes : (held′ : List Section) (next : ℕ) → got held′ next ≡ heldBehind held (stepIn m c held ws at) →
-      endOf (planIn (suc left) m c held ws at) ≡ endOf (planIn left m c held′ ws next)
+module _ (left m c : ℕ) (standing : Standing) (ws : List ℕ) (at : ℕ) where
+  abbrev here : Read Step
+  here = stepIn m c (standing .held) (standing .spare) ws at
+
+  pub plan-goes : (standing′ : Standing) (next : ℕ) → got standing′ next ≡ standingBehind standing here →
+      endOf (planFrom (suc left) m c standing ws at) ≡ endOf (planFrom left m c standing′ ws next)
   unfolding planIn
-  plan-goes held′ next e = go (seen (stepIn m c held ws at)) (seen (planIn left m c held′ ws next))
+  plan-goes standing′ next e = go (seen here) (seen (planFrom left m c standing′ ws next))
     where
-      go : Seen (stepIn m c held ws at) → Seen (planIn left m c held′ ws next) → endOf (planIn (suc left) m c held ws at) ≡ endOf (planIn left m c held′ ws next)
-      go (gets step place f) (gets steps end h) =
-          let g : got held′ next ≡ got (heldAfter step held) place = e ∙ ap (heldBehind held) f in
-          let p : held′ ≡ heldAfter step held = cc in
+      go : Seen here → Seen (planFrom left m c standing′ ws next) → endOf (planFrom (suc left) m c standing ws at) ≡ endOf (planFrom left m c standing′ ws next)
+      go (gets step place f) x =
+          let g : got standing′ next ≡ got (standingAfter step standing) place = e ∙ ap (standingBehind standing) f in
+          let p : standing′ ≡ standingAfter step standing = cc in
           let n : next ≡ place = cc in
-          rw (f, planIn) (rw (← p, ← n) (rw h))
-      go (gets step place f) (refuses number end h) =
-          let g : got held′ next ≡ got (heldAfter step held) place = e ∙ ap (heldBehind held) f in
-          let p : held′ ≡ heldAfter step held = cc in
-          let n : next ≡ place = cc in
-          rw (f, planIn) (rw (← p, ← n) (rw h))
+          rw (f, planIn) (rw (p, n) (rest step (seen (planFrom left m c (standingAfter step standing) ws place))))
+        where
+          rest : (step : Step) → Seen (planFrom left m c (standingAfter step standing) ws place) →
+              endOf (planFrom left m c (standingAfter step standing) ws place andThen λ steps end. got (step ∷ steps) end) ≡ endOf (planFrom left m c (standingAfter step standing) ws place)
+          rest step (gets steps end h) = rw h
+          rest step (refuses number end h) = rw h
       go (refuses number place f) x =
-          let g : got held′ next ≡ bad number place = e ∙ ap (heldBehind held) f in
+          let g : got standing′ next ≡ bad number place = e ∙ ap (standingBehind standing) f in
           cc
 
-  pub plan-stops : (number place : ℕ) → bad number place ≡ heldBehind held (stepIn m c held ws at) →
-      endOf (planIn (suc left) m c held ws at) ≡ bad number place
+  pub plan-stops : (number place : ℕ) → bad number place ≡ standingBehind standing here →
+      endOf (planFrom (suc left) m c standing ws at) ≡ bad number place
   unfolding planIn
-  plan-stops number place e = go (seen (stepIn m c held ws at))
+  plan-stops number place e = go (seen here)
     where
-      go : Seen (stepIn m c held ws at) → endOf (planIn (suc left) m c held ws at) ≡ bad number place
+      go : Seen here → endOf (planFrom (suc left) m c standing ws at) ≡ bad number place
       go (gets step next f) =
-          let g : bad number place ≡ got (heldAfter step held) next = e ∙ ap (heldBehind held) f in
+          let g : bad number place ≡ got (standingAfter step standing) next = e ∙ ap (standingBehind standing) f in
           cc
       go (refuses n p f) =
-          let g : _≡_ {A = Read (List Section)} (bad number place) (bad n p) = e ∙ ap (heldBehind held) f in
+          let g : _≡_ {A = Read Standing} (bad number place) (bad n p) = e ∙ ap (standingBehind standing) f in
           let x : number ≡ n = cc in
           let y : place ≡ p = cc in
           rw (f, planIn) (rw (x, y))
@@ -229,9 +244,9 @@ module _ (ws : List ℕ) (at : ℕ) (t : Word) where
             rw next at (cost .word)
 
         -- The plan behind them, whatever the task is.
-        plan-last : (m : ℕ) (s : ℕ) → Seen (planIn s m (c .value) [] ws (at + atPlan)) →
-            endOf {A = Task} (planIn s m (c .value) [] ws (at + atPlan) andThen λ plan next.
-            got (record { T = t .value; D = d .value; C = c .value; plan = plan }) next) ≡ endOf (planIn s m (c .value) [] ws (at + atPlan))
+        plan-last : (m : ℕ) (s : ℕ) → Seen (planIn s m (c .value) [] (c .value ∷ []) ws (at + atPlan)) →
+            endOf {A = Task} (planIn s m (c .value) [] (c .value ∷ []) ws (at + atPlan) andThen λ plan next.
+            got (record { T = t .value; D = d .value; C = c .value; plan = plan }) next) ≡ endOf (planIn s m (c .value) [] (c .value ∷ []) ws (at + atPlan))
         plan-last m s (gets plan next e) = rw e
         plan-last m s (refuses n p e) = rw e
 
@@ -242,7 +257,7 @@ module _ (ws : List ℕ) (at : ℕ) (t : Word) where
             let next : at + atSteps + 1 ≡ at + atPlan = omega arith in
             let last : wordIn COUNT 0 mostSteps ws (at + atSteps) ≡ got (s .value) (at + atPlan) = rw next at (w .word) in
             record {
-              reads = λ m. rw (first-word, taskIn) (rw second-word (rw third-word (rw (last, e) (plan-last m (s .value) (seen (planIn (s .value) m (c .value) [] ws (at + atPlan)))))));
+              reads = λ m. rw (first-word, taskIn) (rw second-word (rw third-word (rw (last, e) (plan-last m (s .value) (seen (planIn (s .value) m (c .value) [] (c .value ∷ []) ws (at + atPlan)))))));
               room = λ q. omega (arith, w .there);
               count = λ q. w .value;
             }
@@ -253,13 +268,13 @@ module _ (ws : List ℕ) (at : ℕ) (t : Word) where
         }
 
 -- What is left of a plan after its last step.
-pub plan-ends : (m c : ℕ) (held : List Section) (ws : List ℕ) (at : ℕ) → held ≡ [] → endOf (planIn zero m c held ws at) ≡ got tt at
+pub plan-ends : (m c : ℕ) (held : List Section) (spare ws : List ℕ) (at : ℕ) → held ≡ [] → endOf (planIn zero m c held spare ws at) ≡ got tt at
 unfolding planIn
-plan-ends m c held ws at e = rw e
+plan-ends m c held spare ws at e = rw e
 
-pub plan-holds : (m c : ℕ) (held : List Section) (ws : List ℕ) (at : ℕ) → nothingHeld held ≡ false → endOf (planIn zero m c held ws at) ≡ bad NEST at
+pub plan-holds : (m c : ℕ) (held : List Section) (spare ws : List ℕ) (at : ℕ) → nothingHeld held ≡ false → endOf (planIn zero m c held spare ws at) ≡ bad NEST at
 unfolding planIn
-plan-holds m c held ws at e = rw e
+plan-holds m c held spare ws at e = rw e
 
 -- A task that is sound leads to the next, and one that is not ends the table.
 module _ (left m : ℕ) (ws : List ℕ) (at : ℕ) where
@@ -304,7 +319,7 @@ module _ (left m : ℕ) (ws : List ℕ) (at : ℕ) where
     pub head-place : head .finding ≡ Sound → at + atPlan + stepSize * head .steps ≡ behind ws at
     head-place e = ap (λ (s : ℕ). at + atPlan + stepSize * s) (judged .count e)
 
-    pub head-goes : head .finding ≡ Sound → endOf (taskIn m ws at) ≡ endOf (planIn (head .steps) m (head .cost) [] ws (at + atPlan))
+    pub head-goes : head .finding ≡ Sound → endOf (taskIn m ws at) ≡ endOf (planIn (head .steps) m (head .cost) [] (head .cost ∷ []) ws (at + atPlan))
     head-goes e = rw e at (judged .reads m)
 
 -- All tasks are read.
@@ -314,13 +329,13 @@ tasks-end m ws at = refl
 
 -- The next step, as `steps::read_step` answers it.
 module _ (left m c : ℕ) (sections : Sections) (ws : List ℕ) (at : ℕ) (r : Stepped) (judged : StepJudged m c sections ws at r) where
-  pub step-on : r .finding ≡ Sound → endOf (planIn (suc left) m c (sectionsIn sections) ws at) ≡ endOf (planIn left m c (sectionsIn (r .sections)) ws (at + stepSize))
-  step-on e = plan-goes left m c (sectionsIn sections) ws at (sectionsIn (r .sections)) (at + stepSize) (sym (rw e at (judged .reads)))
+  pub step-on : r .finding ≡ Sound → endOf (planFrom (suc left) m c (standingIn sections) ws at) ≡ endOf (planFrom left m c (standingIn (r .sections)) ws (at + stepSize))
+  step-on e = plan-goes left m c (standingIn sections) ws at (standingIn (r .sections)) (at + stepSize) (sym (rw e at (judged .reads)))
 
-  pub step-off : (r .finding ≡ Sound → ⊥) → (end : ℕ) → endOf (planIn (suc left) m c (sectionsIn sections) ws at) ≡ stoppedBy (r .finding) (got tt end)
+  pub step-off : (r .finding ≡ Sound → ⊥) → (end : ℕ) → endOf (planFrom (suc left) m c (standingIn sections) ws at) ≡ stoppedBy (r .finding) (got tt end)
   step-off n end =
       let q = refusal (r .finding) n in
-      rw (q .said) (plan-stops left m c (sectionsIn sections) ws at (q .number) (q .place) (sym (rw (q .said) at (judged .reads))))
+      rw (q .said) (plan-stops left m c (standingIn sections) ws at (q .number) (q .place) (sym (rw (q .said) at (judged .reads))))
 
 -- A task that is refused ends the table with that refusal.
 pub refused-task : (left m : ℕ) (ws : List ℕ) (at end : ℕ) (found : Finding) → (found ≡ Sound → ⊥) → endOf (taskIn m ws at) ≡ stoppedBy found (got tt end) →

@@ -12,11 +12,14 @@ use borrow.Author.Tests.{lt-ltb, le-ltb, le-leb, lt-leb}
 use Rattle.table.specs.Limits.{mostTicks, mostSteps, mostHeld, stepSize, atResource, atLength}
 use Rattle.table.specs.Table.{Step, lock, unlock, Task, noTask}
 use Rattle.table.specs.Held.{Section, heldAfter}
+use Rattle.table.specs.Spare.{spareAfter, crowded}
+use Rattle.table.specs.Claims.{Level, Fitting, opens, closes}
 use Rattle.table.specs.Check.{Read, got, _andThen_, wordIn, brokenLock, stepIn, planIn, taskIn, tasksIn}
 use Rattle.numbers.specs.Answers.{RANGE, COUNT}
 use Rattle.table.specs.Valid.{Allowed, Nested, ends, locks, unlocks, ValidTask}
 use Rattle.table.specs.Words.{planWords, taskWords, tasksWords}
 use Rattle.numbers.proofs.Tests.{never}
+use Rattle.table.proofs.Claimed.{Balanced, balanced-first, balanced-after, fits-lock}
 use Rattle.table.proofs.Passed.{afterPlan, afterS, afterC, afterD, afterT}
 
 -- A read got `a`, and `rest` lies behind it.
@@ -91,10 +94,10 @@ allowed-whole m c r l [] a = refl
 allowed-whole m c r l (s ∷ held) a =
     rw (a .free, lt-leb mostHeld (length (s ∷ held)) (a .fifth), le-ltb (s .length) l (a .inner))
 
-lock-written : (m c r l : ℕ) (held : List Section) (ws : List ℕ) (at : ℕ) {rest : List ℕ} → Allowed m c r l held →
-    drop at ws ≡ 1 ∷ r ∷ l ∷ rest → Written (stepIn m c held ws at) (lock r l) ws rest
+lock-written : (m c r l : ℕ) (held : List Section) (spare ws : List ℕ) (at : ℕ) {rest : List ℕ} → Allowed m c r l held → crowded (lock r l) spare ≡ false →
+    drop at ws ≡ 1 ∷ r ∷ l ∷ rest → Written (stepIn m c held spare ws at) (lock r l) ws rest
 unfolding stepIn
-lock-written m c r l held ws at a e =
+lock-written m c r l held spare ws at a f e =
     let t = three ws at e in
     record {
       end = at + stepSize;
@@ -107,14 +110,15 @@ lock-written m c r l held ws at a e =
         le-leb 1 l (a .least),
         le-leb l c (a .most),
         allowed-whole m c r l held a,
+        f,
       );
       left = t .left;
     }
 
-unlock-written : (m c : ℕ) (s : Section) (held : List Section) (ws : List ℕ) (at : ℕ) {rest : List ℕ} → drop at ws ≡ 2 ∷ 0 ∷ 0 ∷ rest →
-    Written (stepIn m c (s ∷ held) ws at) unlock ws rest
+unlock-written : (m c : ℕ) (s : Section) (held : List Section) (spare ws : List ℕ) (at : ℕ) {rest : List ℕ} → drop at ws ≡ 2 ∷ 0 ∷ 0 ∷ rest →
+    Written (stepIn m c (s ∷ held) spare ws at) unlock ws rest
 unfolding stepIn
-unlock-written m c s held ws at e =
+unlock-written m c s held spare ws at e =
     let t = three ws at e in
     record {
       end = at + stepSize;
@@ -124,25 +128,29 @@ unlock-written m c s held ws at e =
 
 -- ---- a plan
 
-plan-then : (m c left : ℕ) (held : List Section) (ws : List ℕ) (at : ℕ) (step : Step) (steps : List Step) {mid rest : List ℕ} →
-    Written (stepIn m c held ws at) step ws mid →
-    ((next : ℕ) → drop next ws ≡ mid → Written (planIn left m c (heldAfter step held) ws next) steps ws rest) →
-    Written (planIn (suc left) m c held ws at) (step ∷ steps) ws rest
+plan-then : (m c left : ℕ) (held : List Section) (spare ws : List ℕ) (at : ℕ) (step : Step) (steps : List Step) {mid rest : List ℕ} →
+    Written (stepIn m c held spare ws at) step ws mid →
+    ((next : ℕ) → drop next ws ≡ mid → Written (planIn left m c (heldAfter step held) (spareAfter step spare) ws next) steps ws rest) →
+    Written (planIn (suc left) m c held spare ws at) (step ∷ steps) ws rest
 unfolding planIn
-plan-then m c left held ws at step steps one rest =
+plan-then m c left held spare ws at step steps one rest =
     then-written
-    (λ (s : Step) (next : ℕ). _andThen_ (planIn left m c (heldAfter s held) ws next) (λ (ss : List Step) (end : ℕ). got (s ∷ ss) end))
+    (λ (s : Step) (next : ℕ). _andThen_ (planIn left m c (heldAfter s held) (spareAfter s spare) ws next) (λ (ss : List Step) (end : ℕ). got (s ∷ ss) end))
     one
     (λ next e. then-written (λ (ss : List Step) (end : ℕ). got (step ∷ ss) end) (rest next e) (λ end q. done (step ∷ steps) ws end q))
 
-pub plan-written : {m c : ℕ} {held : List Section} {plan : List Step} → Nested m c held plan → (ws : List ℕ) (at : ℕ) {rest : List ℕ} →
-    drop at ws ≡ planWords plan ++ rest → Written (planIn (length plan) m c held ws at) plan ws rest
+pub plan-written : {m c : ℕ} {held : List Section} {levels : List Level} {spare : List ℕ} {plan : List Step} → Nested m c held plan → Fitting levels plan →
+    Balanced levels spare → (ws : List ℕ) (at : ℕ) {rest : List ℕ} → drop at ws ≡ planWords plan ++ rest →
+    Written (planIn (length plan) m c held spare ws at) plan ws rest
 unfolding planIn planWords
-plan-written ends ws at e = done [] ws at e
-plan-written {m} {c} {held} (locks {steps = steps} {r = r} {l = l} a n) ws at e =
-    plan-then m c (length steps) held ws at (lock r l) steps (lock-written m c r l held ws at a e) (λ next q. plan-written n ws next q)
-plan-written {m} {c} (unlocks {held = held} {steps = steps} {s = s} n) ws at e =
-    plan-then m c (length steps) (s ∷ held) ws at unlock steps (unlock-written m c s held ws at e) (λ next q. plan-written n ws next q)
+plan-written ends f b ws at e = done [] ws at e
+plan-written {m} {c} {held} {spare = spare} (locks {steps = steps} {r = r} {l = l} a n) (opens h f) b ws at e =
+    let fits = fits-lock r l b h in
+    plan-then m c (length steps) held spare ws at (lock r l) steps (lock-written m c r l held spare ws at a fits e)
+    (λ next q. plan-written n f (balanced-after (lock r l) b fits) ws next q)
+plan-written {m} {c} {spare = spare} (unlocks {held = held} {steps = steps} {s = s} n) (closes f) b ws at e =
+    plan-then m c (length steps) (s ∷ held) spare ws at unlock steps (unlock-written m c s held spare ws at e)
+    (λ next q. plan-written n f (balanced-after unlock b refl) ws next q)
 
 -- ---- a task
 
@@ -154,7 +162,7 @@ task-written m task ws at v e =
     (λ at₁ e₁. then-written (afterD m ws (task .T)) (word-written RANGE 1 mostTicks ws at₁ e₁ (v .D-least) (v .D-most))
     (λ at₂ e₂. then-written (afterC m ws (task .T) (task .D)) (word-written RANGE 1 mostTicks ws at₂ e₂ (v .C-least) (v .C-most))
     (λ at₃ e₃. then-written (afterS m ws (task .T) (task .D) (task .C)) (word-written COUNT 0 mostSteps ws at₃ e₃ zero-le (v .steps))
-    (λ at₄ e₄. then-written (afterPlan (task .T) (task .D) (task .C)) (plan-written (v .nested) ws at₄ e₄)
+    (λ at₄ e₄. then-written (afterPlan (task .T) (task .D) (task .C)) (plan-written (v .nested) (v .fitting) (balanced-first (task .C)) ws at₄ e₄)
     (λ end e₅. done task ws end e₅)))))
 
 -- ---- the tasks

@@ -5,12 +5,13 @@
 use Prim.Native.Nat.{ℕ, zero, suc, _+_, _*_, _≤_, _<_}
 use mathlib.Core.Path.{_≡_}
 use mathlib.Core.Bool.{true, false}
-use mathlib.Core.List.{List, []}
+use mathlib.Core.List.{List, [], _∷_}
 use lib.ListN.{length, getD, take}
-use Rattle.numbers.specs.Answers.{SHORT, COUNT, RANGE, STEP, NEST}
+use Rattle.numbers.specs.Answers.{SHORT, COUNT, RANGE, STEP, NEST, CROWDED}
 use Rattle.table.specs.Limits.{mostTasks, mostResources, mostTicks, mostSteps, atTasks, atPeriod, atDeadline, atCost, atSteps, atPlan, stepSize, atResource, atLength}
 use Rattle.table.specs.Table.{Table}
 use Rattle.table.specs.Held.{Section, heldFrom}
+use Rattle.table.specs.Claims.{Level, unclaimed, levelHere, levelsFrom, Over}
 use Rattle.table.specs.Check.{brokenStep, brokenNest, nothingHeld, stepSaid}
 use Rattle.table.specs.Valid.{Valid}
 use Rattle.table.specs.Map.{stepsAt, behind}
@@ -40,6 +41,10 @@ stepsIn ws i = getD ws (taskStart ws i + atSteps) 0
 -- What the first k steps of task i hold.
 abbrev pub heldBefore : List ℕ → ℕ → ℕ → List Section
 heldBefore ws i k = heldFrom [] (stepsAt k ws (taskStart ws i + atPlan))
+
+-- The levels that they leave open.
+abbrev pub levelsBefore : List ℕ → ℕ → ℕ → List Level
+levelsBefore ws i k = levelsFrom (unclaimed (costIn ws i) ∷ []) (stepsAt k ws (taskStart ws i + atPlan))
 
 -- A word that is there and outside its limits.
 pub data Outside (least most : ℕ) (ws : List ℕ) (place : ℕ) : Type 0 where
@@ -74,5 +79,8 @@ pub data Broken (ws : List ℕ) : ℕ → ℕ → Type 0 where
   nest : (i k : ℕ) → StepThere ws i k →
       brokenNest (stepSaid (getD ws (stepStart ws i k) 0) (getD ws (stepStart ws i k + atResource) 0) (getD ws (stepStart ws i k + atLength) 0)) (heldBefore ws i k) ≡ true →
       Broken ws NEST (stepStart ws i k)
+  -- "the lock step that goes over" (request 105): the lengths at its level, this one included, are above the room around them
+  crowded : (i k : ℕ) → StepThere ws i k → getD ws (stepStart ws i k) 0 ≡ 1 →
+      Over (getD ws (stepStart ws i k + atLength) 0) (levelHere (levelsBefore ws i k)) → Broken ws CROWDED (stepStart ws i k)
   -- "a plan that ends holding something": "the index after the plan's last word"
   holding : (i : ℕ) → i < nIn ws → nothingHeld (heldBefore ws i (stepsIn ws i)) ≡ false → Broken ws NEST (stepStart ws i (stepsIn ws i))

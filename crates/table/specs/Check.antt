@@ -1,8 +1,8 @@
 -- "When the table check says no" (document 01): what a list of words says. It is a table, or it is refused with a number and a place.
 -- The check stops at the first broken word; a word is asked for only when the words before it are sound; a step's three words are asked for
--- together; within a step 4 goes before 5; a plan's end is judged before the next word is asked for.
+-- together; within a step 4 goes before 5, and 14 after both; a plan's end is judged before the next word is asked for.
 -- Words are read by their index, since a refusal's place is an index. Assumes nothing.
-use Rattle.numbers.specs.Answers.{SHORT, COUNT, RANGE, STEP, NEST}
+use Rattle.numbers.specs.Answers.{SHORT, COUNT, RANGE, STEP, NEST, CROWDED}
 use Prim.Native.Nat.{ℕ, zero, suc, _+_}
 use mathlib.Core.Bool.{Bool, true, false, not, cond, _&&_, _||_}
 use mathlib.Core.List.{List, [], _∷_}
@@ -11,6 +11,7 @@ use lib.ListN.{length, getD}
 use Rattle.table.specs.Limits.{mostTasks, mostResources, mostTicks, mostSteps, mostHeld, stepSize, atResource, atLength}
 use Rattle.table.specs.Table.{Step, lock, unlock, Task, Table}
 use Rattle.table.specs.Held.{Section, heldAfter, holds}
+use Rattle.table.specs.Spare.{spareAfter, crowded}
 
 -- What reading at a place finds: something, and the place behind it; or a refusal's number and place.
 pub data Read (A : Type 0) : Type 0 where
@@ -56,24 +57,27 @@ brokenNest unlock held = nothingHeld held
 abbrev pub stepSaid : ℕ → ℕ → ℕ → Step
 stepSaid kind r l = cond (eqb kind 1) (lock r l) unlock
 
--- One step at a place, in a plan that holds `held`: "a step's three words are asked for together", "Within a step 4 goes before 5".
-unfoldable pub stepIn : ℕ → ℕ → List Section → List ℕ → ℕ → Read Step
-stepIn m c held ws at =
+-- One step at a place, in a plan that holds `held` and has `spare` left: "a step's three words are asked for together", "Within a step 4 goes before 5".
+-- CROWDED, which is 14, is asked for after both.
+unfoldable pub stepIn : ℕ → ℕ → List Section → List ℕ → List ℕ → ℕ → Read Step
+stepIn m c held spare ws at =
     let kind = getD ws at 0 in
     let r = getD ws (at + atResource) 0 in
     let l = getD ws (at + atLength) 0 in
     cond (leb (at + stepSize) (length ws))
     (cond (brokenStep m c kind r l)
     (bad STEP at)
-    (cond (brokenNest (stepSaid kind r l) held) (bad NEST at) (got (stepSaid kind r l) (at + stepSize))))
+    (cond (brokenNest (stepSaid kind r l) held)
+    (bad NEST at)
+    (cond (crowded (stepSaid kind r l) spare) (bad CROWDED at) (got (stepSaid kind r l) (at + stepSize)))))
     (bad SHORT (length ws))
 
 -- The rest of a plan, `left` steps from a place on: "a plan that ends holding something" is NEST at "the index after the plan's last word".
-unfoldable pub planIn : ℕ → ℕ → ℕ → List Section → List ℕ → ℕ → Read (List Step)
-planIn zero m c held ws at = cond (nothingHeld held) (got [] at) (bad NEST at)
-planIn (suc left) m c held ws at =
-    stepIn m c held ws at andThen λ step next.
-    planIn left m c (heldAfter step held) ws next andThen λ steps end.
+unfoldable pub planIn : ℕ → ℕ → ℕ → List Section → List ℕ → List ℕ → ℕ → Read (List Step)
+planIn zero m c held spare ws at = cond (nothingHeld held) (got [] at) (bad NEST at)
+planIn (suc left) m c held spare ws at =
+    stepIn m c held spare ws at andThen λ step next.
+    planIn left m c (heldAfter step held) (spareAfter step spare) ws next andThen λ steps end.
     got (step ∷ steps) end
 
 -- One task: "T, D, C, the number of steps s, and three words a step".
@@ -83,7 +87,7 @@ taskIn m ws at =
     wordIn RANGE 1 mostTicks ws at₁ andThen λ d at₂.
     wordIn RANGE 1 mostTicks ws at₂ andThen λ c at₃.
     wordIn COUNT 0 mostSteps ws at₃ andThen λ s at₄.
-    planIn s m c [] ws at₄ andThen λ plan next.
+    planIn s m c [] (c ∷ []) ws at₄ andThen λ plan next.
     got (record { T = t; D = d; C = c; plan = plan }) next
 
 -- `left` tasks from a place on.

@@ -5,6 +5,8 @@ pub mod Check
 pub mod Words
 pub mod Broken
 pub mod Held
+pub mod Spare
+pub mod Claims
 pub mod Valid
 pub mod Floor
 pub mod Map

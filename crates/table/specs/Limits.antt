@@ -22,6 +22,10 @@ mostSteps = 16
 abbrev pub mostHeld : ℕ
 mostHeld = 4
 
+-- The most levels that are open at once: one in each section, and the outermost.
+abbrev pub mostLevels : ℕ
+mostLevels = mostHeld + 1
+
 -- "Word 0: number of tasks n. Word 1: number of resources m. Then for each task": where the first task starts.
 abbrev pub atTasks : ℕ
 atTasks = 2

@@ -3,11 +3,11 @@ use Prim.Native.Nat.{ℕ}
 use mathlib.Core.List.{List}
 use Rattle.table.specs.Check.{Checked, sound, refused, checkOf}
 use Rattle.table.specs.Map.{mapOf}
-use Rattle.numbers.specs.Answers.{SHORT, COUNT, RANGE, STEP, NEST}
+use Rattle.numbers.specs.Answers.{SHORT, COUNT, RANGE, STEP, NEST, CROWDED}
 use Rattle.table.specs.declared.Finding.{Finding}
 use Rattle.table.specs.declared.Map.{Map}
 use Rattle.table.specs.declared.Survey.{Survey}
-use Rattle.table.specs.declared.Finding.the-variants.{Sound, Short, Count, Range, Step, Nest}
+use Rattle.table.specs.declared.Finding.the-variants.{Sound, Short, Count, Range, Step, Nest, Crowded}
 
 -- That a list passes, or a refusal's number and place.
 pub data CheckReply : Type 0 where
@@ -22,6 +22,7 @@ saidOf (Count place) = says COUNT place
 saidOf (Range place) = says RANGE place
 saidOf (Step place) = says STEP place
 saidOf (Nest place) = says NEST place
+saidOf (Crowded place) = says CROWDED place
 
 -- What the check has to say of what a list is.
 abbrev pub findingSaid : Checked → CheckReply

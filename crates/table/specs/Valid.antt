@@ -1,5 +1,5 @@
--- Document 01's limits and nesting rules as a predicate on tables, stated apart from the check. The theorems say that the check accepts exactly
--- the words of these tables. Assumes nothing.
+-- Document 01's limits and nesting rules, and request 105's sums, as a predicate on tables, stated apart from the check. The theorems say that
+-- the check accepts exactly the words of these tables. Assumes nothing.
 use Prim.Native.Nat.{ℕ, _≤_, _<_}
 use mathlib.Core.Path.{_≡_}
 use mathlib.Core.Bool.{false}
@@ -8,6 +8,7 @@ use lib.ListN.{length}
 use Rattle.table.specs.Limits.{mostTasks, mostResources, mostTicks, mostSteps, mostHeld}
 use Rattle.table.specs.Table.{Step, lock, unlock, Task, Table, tasksOf, taskOf}
 use Rattle.table.specs.Held.{Section, holds}
+use Rattle.table.specs.Claims.{unclaimed, Fitting}
 
 -- No "inner length above that of the section right around it".
 abbrev pub Within : ℕ → List Section → Type 0
@@ -31,7 +32,7 @@ pub data Nested (m c : ℕ) : List Section → List Step → Type 0 where
   unlocks : {held : List Section} {steps : List Step} {s : Section} → Nested m c held steps →
       Nested m c (s ∷ held) (unlock ∷ steps)
 
--- "T, D, C, each" between 1 and 1,000,000, at most sixteen steps, and a plan that nests.
+-- "T, D, C, each" between 1 and 1,000,000, at most sixteen steps, and a plan that nests and fits.
 pub record ValidTask (m : ℕ) (task : Task) : Type 0 where
   pub T-least : 1 ≤ task .T
   pub T-most : task .T ≤ mostTicks
@@ -41,6 +42,7 @@ pub record ValidTask (m : ℕ) (task : Task) : Type 0 where
   pub C-most : task .C ≤ mostTicks
   pub steps : length (task .plan) ≤ mostSteps
   pub nested : Nested m (task .C) [] (task .plan)
+  pub fitting : Fitting (unclaimed (task .C) ∷ []) (task .plan)
 
 -- A table within document 01's limits.
 pub record Valid (t : Table) : Type 0 where

@@ -5,12 +5,13 @@ use mathlib.Core.Path.{_≡_}
 use mathlib.Core.Bool.{false, cond, _&&_}
 use mathlib.Core.List.{List, [], _∷_}
 use lib.Dec.{ltb, leb}
-use lib.ListN.{length, getD, drop}
+use lib.ListN.{length, getD, take, drop}
 use Rattle.sets.specs.Member.{width}
-use Rattle.table.specs.Limits.{mostTasks, mostHeld, atTasks, atSteps, atPlan, stepSize}
+use Rattle.table.specs.Limits.{mostTasks, mostHeld, mostLevels, atTasks, atSteps, atPlan, stepSize}
 use Rattle.table.specs.Check.{Read, got, bad, stepIn, planIn, taskIn, tasksIn}
 use Rattle.table.specs.Table.{Step}
 use Rattle.table.specs.Held.{Section, heldAfter, holds, heldSet}
+use Rattle.table.specs.Spare.{spareAfter}
 use Rattle.table.specs.Map.{startsFrom, padded, noMap}
 use Rattle.table.specs.Said.{CheckReply, passes, says, saidOf}
 use Rattle.table.specs.declared.Finding.{Finding}
@@ -54,7 +55,7 @@ stoppedOf finding = record { finding = finding; cost = 0; steps = 0 }
 
 -- Where they are sound, the task goes on with its plan.
 pub record HeadJudged (ws : List ℕ) (at : ℕ) (r : Head) : Type 0 where
-  pub reads : (m : ℕ) → endOf (taskIn m ws at) ≡ stoppedBy (r .finding) (endOf (planIn (r .steps) m (r .cost) [] ws (at + atPlan)))
+  pub reads : (m : ℕ) → endOf (taskIn m ws at) ≡ stoppedBy (r .finding) (endOf (planIn (r .steps) m (r .cost) [] (r .cost ∷ []) ws (at + atPlan)))
   pub room : r .finding ≡ Sound → at + atPlan ≤ length ws
   pub count : r .finding ≡ Sound → r .steps ≡ getD ws (at + atSteps) 0
 
@@ -67,32 +68,57 @@ sectionsOf (suc depth) resources lengths =
 abbrev pub sectionsIn : Sections → List Section
 sectionsIn sections = sectionsOf (sections .depth) (sections .resources) (sections .lengths)
 
+-- What is left at the open levels: one more than sections.
+abbrev pub spareIn : Sections → List ℕ
+spareIn sections = take (suc (sections .depth)) (sections .spare)
+
 -- No resource is held twice, and each has its bit.
 abbrev pub Apart : List Section → Type 0
 Apart [] = Unit {0}
 Apart (s ∷ held) = (s .resource < width) × ((holds held (s .resource) ≡ false) × Apart held)
 
--- What the code keeps of the held sections goes together.
+-- What the code keeps of the sections goes together.
 pub record Fair (sections : Sections) : Type 0 where
   pub depth : sections .depth ≤ mostHeld
   pub resources : length (sections .resources) ≡ mostHeld
   pub lengths : length (sections .lengths) ≡ mostHeld
+  pub spare : length (sections .spare) ≡ mostLevels
   pub set : sections .set ≡ heldSet (sectionsIn sections)
   pub apart : Apart (sectionsIn sections)
 
--- What is held after a change.
-pub record Leaves (held : List Section) (sections : Sections) : Type 0 where
-  pub held-is : sectionsIn sections ≡ held
+-- Where a plan stands: what it holds, and what is left at the open levels.
+pub record Standing : Type 0 where
+  pub held : List Section
+  pub spare : List ℕ
+
+-- At its start it holds nothing and has C left.
+abbrev pub standingFirst : ℕ → Standing
+standingFirst c = record { held = []; spare = c ∷ [] }
+
+abbrev pub standingIn : Sections → Standing
+standingIn sections = record { held = sectionsIn sections; spare = spareIn sections }
+
+abbrev pub standingAfter : Step → Standing → Standing
+standingAfter step standing = record { held = heldAfter step (standing .held); spare = spareAfter step (standing .spare) }
+
+-- Where it stands after a change.
+pub record Leaves (standing : Standing) (sections : Sections) : Type 0 where
+  pub stands : standingIn sections ≡ standing
   pub fair : Fair sections
 
--- What is held behind a step.
-abbrev pub heldBehind : List Section → Read Step → Read (List Section)
-heldBehind held (got step next) = got (heldAfter step held) next
-heldBehind held (bad number place) = bad number place
+-- Where it stands behind a step.
+abbrev pub standingBehind : Standing → Read Step → Read Standing
+standingBehind standing (got step next) = got (standingAfter step standing) next
+standingBehind standing (bad number place) = bad number place
 
--- One step: what it leaves held, or its refusal.
+-- Its rest.
+abbrev pub planFrom : ℕ → ℕ → ℕ → Standing → List ℕ → ℕ → Read (List Step)
+planFrom left m c standing ws at = planIn left m c (standing .held) (standing .spare) ws at
+
+-- One step: where it leaves the plan, or its refusal.
 pub record StepJudged (m c : ℕ) (sections : Sections) (ws : List ℕ) (at : ℕ) (r : Stepped) : Type 0 where
-  pub reads : heldBehind (sectionsIn sections) (stepIn m c (sectionsIn sections) ws at) ≡ stoppedBy (r .finding) (got (sectionsIn (r .sections)) (at + stepSize))
+  pub reads : standingBehind (standingIn sections) (stepIn m c (sectionsIn sections) (spareIn sections) ws at)
+      ≡ stoppedBy (r .finding) (got (standingIn (r .sections)) (at + stepSize))
   pub room : r .finding ≡ Sound → at + stepSize ≤ length ws
   pub fair : Fair (r .sections)
 

@@ -10,12 +10,13 @@ ghost use mathlib.Core.Path.{_≡_};
 ghost use Rattle.table.specs.Said.{saidOf, numberIn, placeIn};
 use limits::TASKS;
 use numbers::answers::COUNT;
+use numbers::answers::CROWDED;
 use numbers::answers::NEST;
 use numbers::answers::RANGE;
 use numbers::answers::SHORT;
 use numbers::answers::STEP;
 
-// What the check finds: sound, or the refusal that document 01 names, with its place (a word index).
+// What the check finds: sound, or the refusal that document 01 or request 105 names, with its place (a word index).
 pub enum Finding {
     Sound,
     Short(usize),
@@ -23,6 +24,7 @@ pub enum Finding {
     Range(usize),
     Step(usize),
     Nest(usize),
+    Crowded(usize),
 }
 
 impl Finding {
@@ -37,6 +39,7 @@ impl Finding {
             Finding::Range(_) => RANGE,
             Finding::Step(_) => STEP,
             Finding::Nest(_) => NEST,
+            Finding::Crowded(_) => CROWDED,
         }
     }
 
@@ -51,6 +54,7 @@ impl Finding {
             Finding::Range(place) => place,
             Finding::Step(place) => place,
             Finding::Nest(place) => place,
+            Finding::Crowded(place) => place,
         }
     }
 }

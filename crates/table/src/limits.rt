@@ -21,6 +21,9 @@ pub const MOST_STEPS: u32 = STEPS as u32;
 // "sections held at once by a job | 0 | 4"
 pub const MOST_HELD: usize = 4;
 
+// The most levels that are open at once: one in each section, and the outermost.
+pub const LEVELS: usize = MOST_HELD + 1;
+
 // "Kind 1 locks the resource", "Kind 2 unlocks the most recent one"
 pub const LOCK: u32 = 1;
 

@@ -7,6 +7,7 @@ use crate::limits::STEP_SIZE;
 use crate::limits::UNLOCK;
 use crate::sections::Sections;
 use crate::sections::broken_lock;
+use crate::sections::crowded_lock;
 use crate::sections::locked;
 use crate::sections::unlocked;
 ghost use mathlib.Core.Path.{_≡_};
@@ -16,8 +17,8 @@ ghost use lib.ListN.{length};
 ghost use Rattle.sets.specs.Member.{width};
 ghost use Rattle.table.specs.Limits.{mostResources};
 ghost use Rattle.table.specs.Check.{stepSaid, brokenStep, brokenNest};
-ghost use Rattle.table.specs.Held.{heldAfter};
-ghost use Rattle.table.specs.Walk.{sectionsIn, Fair, Leaves, StepJudged};
+ghost use Rattle.table.specs.Spare.{crowded};
+ghost use Rattle.table.specs.Walk.{sectionsIn, spareIn, standingIn, standingAfter, Fair, Leaves, StepJudged};
 
 // STEP: "kind is neither 1 nor 2; or an unlock has a word that isn't 0; or a lock's resource is not below m or its length is outside its
 // limits".
@@ -53,12 +54,24 @@ fn broken_nest(sections: Sections, kind: u32, resource: u32, length: u32) -> boo
     sections.depth == 0
 }
 
-// What a sound step leaves held.
+// CROWDED, of a step that is sound but for its length: only a lock takes from what is left.
+fn broken_level(sections: Sections, kind: u32, resource: u32, length: u32) -> bool
+    requires { ⌜ Fair sections ⌝ }
+    ensures { λ r. ⌜ r ≡ crowded (stepSaid kind resource length) (spareIn sections) ⌝ }
+{
+    if kind == LOCK {
+        return crowded_lock(sections, length);
+    }
+    false
+}
+
+// What a sound step leaves held, and left.
 fn taken(sections: Sections, kind: u32, resource: u32, length: u32) -> Sections
     requires { ⌜ Fair sections ⌝ }
     requires { ⌜ brokenNest (stepSaid kind resource length) (sectionsIn sections) ≡ false ⌝ }
+    requires { ⌜ crowded (stepSaid kind resource length) (spareIn sections) ≡ false ⌝ }
     requires { ⌜ (kind ≡ 1 → resource < width) ⌝ }
-    ensures { λ r. ⌜ Leaves (heldAfter (stepSaid kind resource length) (sectionsIn sections)) r ⌝ }
+    ensures { λ r. ⌜ Leaves (standingAfter (stepSaid kind resource length) (standingIn sections)) r ⌝ }
 {
     if kind == LOCK {
         return locked(sections, resource, length);
@@ -66,13 +79,13 @@ fn taken(sections: Sections, kind: u32, resource: u32, length: u32) -> Sections
     unlocked(sections)
 }
 
-// One step as it was judged: what is held behind it where it is sound.
+// One step as it was judged: where it leaves the plan, if it is sound.
 pub(crate) struct Stepped {
     pub(crate) finding: Finding,
     pub(crate) sections: Sections,
 }
 
-// "a step's three words are asked for together"; "Within a step 4 goes before 5".
+// "a step's three words are asked for together"; "Within a step 4 goes before 5", and CROWDED "comes after 4 and 5 within a step".
 pub(crate) fn read_step(
     words: &[u32],
     at: usize,
@@ -103,6 +116,12 @@ pub(crate) fn read_step(
     if broken_nest(sections, kind, resource, length) {
         return Stepped {
             finding: Finding::Nest(at),
+            sections,
+        };
+    }
+    if broken_level(sections, kind, resource, length) {
+        return Stepped {
+            finding: Finding::Crowded(at),
             sections,
         };
     }

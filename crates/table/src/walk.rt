@@ -38,7 +38,7 @@ pub(crate) fn walk(words: &[u32], tasks: u32, resources: u32) -> Walked
             finding = found;
             break 'tasks;
         };
-        let mut sections = nothing_held();
+        let mut sections = nothing_held(head.cost);
         at += AT_PLAN;
         let mut left = head.steps;
         while 0 < left {

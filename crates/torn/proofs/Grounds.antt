@@ -3,10 +3,8 @@
 use Prim.Native.Nat.{ℕ, _<_, _≤_, _^_, min}
 use native.Mathlib.Nat.{lt-of-lt-of-le}
 use native.Mathlib.Omega.{arith}
-use mathlib.Core.Path.{_≡_, refl, sym, ap, ap₂, subst, _∙_}
-use mathlib.Core.List.{List, [], _∷_}
-use types.Run.{OneOf, miss}
-use denote.Enum.Declared
+use mathlib.Core.Path.{_≡_, refl, sym, ap, ap₂, _∙_}
+use mathlib.Core.List.{List}
 use mathlib.Core.Bool.{Bool, true, false, true≢false, _&&_}
 use lib.Dec.{ltb, leb}
 use lib.ListN.{length, take}
@@ -23,9 +21,8 @@ use Rattle.table.specs.Map.{tableAt, mapOf}
 use Rattle.table.specs.Said.{saidOf, findingSaid, passes}
 use Rattle.table.specs.declared.Map.{Map}
 use Rattle.table.specs.declared.Finding.{Finding}
-use Rattle.table.specs.declared.Finding.the-variants.{Short, Count, Range, Step, Nest}
 use Rattle.table.specs.declared.Finding.the-variants as finding
-use Rattle.table.proofs.Finding
+use Rattle.table.proofs.Findings.{is-sound}
 use Rattle.table.proofs.Laws.{table-at}
 use Rattle.machine.specs.Order.{rowOf}
 use Rattle.machine.specs.declared.Kept.{Kept}
@@ -67,21 +64,6 @@ passed-sound (refused number place) e = never (cc)
 pub not-sound : (found : Finding) (checked : Checked) → saidOf found ≡ findingSaid checked → (found ≡ finding.Sound → ⊥) → notSound checked ≡ true
 not-sound found (refused number place) e n = refl
 not-sound found (sound t) e n = absurd (n (is-sound found e))
-  where
-    is-sound : (f : Finding) → saidOf f ≡ passes → f ≡ finding.Sound
-    is-sound finding.Sound q = refl
-    is-sound (Short p) q = never (cc)
-    is-sound (Count p) q = never (cc)
-    is-sound (Range p) q = never (cc)
-    is-sound (Step p) q = never (cc)
-    is-sound (Nest p) q = never (cc)
-
--- Of the six cases, the code's test of the finding tells the first from the others.
-abbrev pub others : List ℕ
-others = 1 ∷ 2 ∷ 3 ∷ 4 ∷ 5 ∷ []
-
-pub not-told : (found : Finding) → OneOf others (Declared.tagOf Finding.the-type found) → found ≡ finding.Sound → ⊥
-not-told found told e = miss others 0 tt (subst (λ (f : Finding). OneOf others (Declared.tagOf Finding.the-type f)) e told)
 
 pub sound-told : (found : Finding) (checked : Checked) → saidOf found ≡ findingSaid checked → found ≡ finding.Sound → findingSaid checked ≡ passes
 sound-told found checked e q = sym e ∙ ap saidOf q

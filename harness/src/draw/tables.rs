@@ -51,6 +51,7 @@ pub fn table(rng: &mut Rng) -> Vec<u32> {
         67..=72 => long(rng),
         73..=79 => careless(rng, 0),
         80..=81 => odd_words(rng, 9),
+        82..=85 => crowded(rng),
         _ => spoiled(rng),
     }
 }
@@ -69,7 +70,7 @@ pub fn sound(rng: &mut Rng) -> Vec<u32> {
 
 /// A list of words for the check: mostly broken, on each ground.
 pub fn any(rng: &mut Rng) -> Vec<u32> {
-    match rng.between(0, 19) {
+    match rng.between(0, 21) {
         0..=2 => sound(rng),
         3 => {
             // n or m.
@@ -82,6 +83,7 @@ pub fn any(rng: &mut Rng) -> Vec<u32> {
         13..=16 => careless(rng, 4),
         17 => too_deep(rng),
         18 => odd_words(rng, 12),
+        19..=20 => crowded(rng),
         _ => {
             // Longer than the room, and sometimes with an odd word within it.
             let mut words = longest(rng);
@@ -128,7 +130,7 @@ fn lively(rng: &mut Rng) -> Vec<u32> {
     ];
     let mut words = vec![n, m];
     for _ in 0..n {
-        let cost = rng.word(1, 9);
+        let cost = rng.word(1, 24);
         let steps = rng.word(0, 12);
         let ticks = [rng.pick(periods), rng.pick(&deadlines), cost];
         put_task(&mut words, ticks, &plan(rng, m, cost, steps));
@@ -154,7 +156,7 @@ fn diving(rng: &mut Rng) -> Vec<u32> {
         tasks.push(task);
     }
     for _ in m..n {
-        let cost = rng.word(2, 20);
+        let cost = rng.word(4, 40);
         let deadline = base * rng.pick(&[6, 10, 30]);
         let mut task = Vec::new();
         let ticks = [rng.pick(periods), deadline, cost];
@@ -208,7 +210,7 @@ fn full(rng: &mut Rng) -> Vec<u32> {
     let m = rng.word(RESOURCES / 2, RESOURCES);
     let mut words = vec![n, m];
     for _ in 0..n {
-        let cost = rng.word(1, 8);
+        let cost = rng.word(1, 32);
         let ticks = [rng.pick(&[64, 128]), rng.pick(&[9, 10, 60, 64]), cost];
         let steps = rng.pick(&[STEPS / 2, STEPS]);
         put_task(&mut words, ticks, &plan(rng, m, cost, steps));
@@ -231,19 +233,23 @@ fn longest(rng: &mut Rng) -> Vec<u32> {
     let m = rng.word(2, RESOURCES);
     let mut words = vec![TASKS, m];
     for _ in 0..TASKS {
-        let cost = rng.word(4, 40);
+        // What each of the parts may take.
+        let share = rng.word(2, 20);
+        let cost = share * (STEPS / 4) + rng.word(0, 1);
         let mut plan = vec![STEPS];
         for _ in 0..STEPS / 4 {
             // Two locks and two unlocks, one in the other or one after the other.
             let outer = rng.word(0, m - 1);
             let inner = (outer + rng.word(1, m - 1)) % m;
-            let length = rng.word(2, cost);
-            let inside = rng.word(1, length);
+            let length = rng.word(1, share - 1);
             plan.extend([1, outer, length]);
             if rng.chance(2, 3) {
+                let inside = rng.word(1, length);
                 plan.extend([1, inner, inside, 2, 0, 0, 2, 0, 0]);
             } else {
-                plan.extend([2, 0, 0, 1, inner, inside, 2, 0, 0]);
+                let left = share - length;
+                let then = rng.word(left.div_ceil(2), left);
+                plan.extend([2, 0, 0, 1, inner, then, 2, 0, 0]);
             }
         }
         let ticks = [rng.pick(&[100, 200, 400]), rng.word(20, 400), cost];
@@ -351,6 +357,43 @@ fn too_deep(rng: &mut Rng) -> Vec<u32> {
     words
 }
 
+/// Sections one after the other, at each depth, that fill what is right around them to the last tick, or claim a tick more; and then
+/// now and then with another fault in the same step.
+fn crowded(rng: &mut Rng) -> Vec<u32> {
+    let around = rng.word(0, DEPTH as u32 - 1);
+    let m = rng.word(DEPTH as u32 + 1, RESOURCES - 1);
+    let cost = rng.word(2, 30);
+    let mut most = cost;
+    let mut steps = Vec::new();
+    for resource in 0..around {
+        most = rng.word(most.div_ceil(2).max(2), most);
+        steps.push([1, resource, most]);
+    }
+    let first = rng.word(1, most - 1);
+    steps.push([1, around, first]);
+    if around + 1 < DEPTH as u32 && rng.chance(1, 2) {
+        // What is inside the first one is no claim on what is around it.
+        steps.extend([[1, around + 1, first], [2, 0, 0]]);
+    }
+    steps.push([2, 0, 0]);
+    let left = most - first;
+    steps.push(match rng.between(0, 9) {
+        0..=2 => [1, around, left],
+        3..=6 => [1, around, left + 1],
+        7 => [1, around, rng.word(left + 1, most)],
+        // 4 and 5 go before: no such resource, or one that is held already if something is around.
+        8 => [1, m, left + 1],
+        _ => [1, around.saturating_sub(1), left + 1],
+    });
+    steps.extend((0..=around).map(|_| [2, 0, 0]));
+    let mut plan = vec![steps.len() as u32];
+    plan.extend(steps.iter().flatten());
+    let mut words = vec![1, m];
+    let ticks = [rng.word(1, 50), rng.word(1, 50), cost];
+    put_task(&mut words, ticks, &plan);
+    words
+}
+
 /// A sound table with one word spoiled, cut or added.
 fn spoiled(rng: &mut Rng) -> Vec<u32> {
     let mut words = match rng.between(0, 3) {
@@ -439,24 +482,28 @@ fn plan(rng: &mut Rng, m: u32, cost: u32, most: u32) -> Vec<u32> {
     // Some plans have one section after the other, some dive.
     let eager = rng.between(3, 9);
     let mut steps: Vec<[u32; STEP_WORDS]> = Vec::new();
-    let mut held: Vec<(u32, u32)> = Vec::new();
+    let mut held: Vec<u32> = Vec::new();
+    // What is left of C, and of the length of each section that is held.
+    let mut left = vec![cost];
     loop {
-        let left = most as usize - steps.len();
-        let free: Vec<u32> = (0..m)
-            .filter(|r| held.iter().all(|(resource, _)| resource != r))
-            .collect();
-        let may_lock = left >= held.len() + 2 && held.len() < DEPTH && !free.is_empty();
+        let free: Vec<u32> = (0..m).filter(|r| !held.contains(r)).collect();
+        let room = most as usize - steps.len() >= held.len() + 2;
+        let may_lock = room && held.len() < DEPTH && !free.is_empty() && left[held.len()] > 0;
         if may_lock && rng.chance(eager, 10) {
-            let around = held.last().map_or(cost, |(_, length)| *length);
-            let length = if rng.chance(1, 2) {
-                around
-            } else {
-                rng.word(1, around)
+            let around = &mut left[held.len()];
+            let length = match rng.between(0, 3) {
+                // All that is left: nothing comes after it on this level.
+                0 => *around,
+                1 => rng.word(1, *around),
+                _ => rng.word(1, around.div_ceil(3)),
             };
+            *around -= length;
             let resource = rng.pick(&free);
-            held.push((resource, length));
+            held.push(resource);
+            left.push(length);
             steps.push([1, resource, length]);
         } else if held.pop().is_some() {
+            left.pop();
             steps.push([2, 0, 0]);
         } else {
             break;

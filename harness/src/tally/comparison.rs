@@ -2,11 +2,11 @@
 
 use std::fmt::{Display, Formatter, Result as Written};
 
-use reference::limits::{COUNT_LIMIT, END_OF_TIME, ROOM, ROWS, STORED_TIME, TORN};
+use reference::limits::{COUNT_LIMIT, DEPTH, END_OF_TIME, ROOM, ROWS, STORED_TIME, TORN};
 use reference::state::contains;
 use reference::{Refusal, Reply, State, Table, Turn, Verdict};
 
-use super::grounds::{CheckGround, TornGround};
+use super::grounds::{self, CheckGround, Crowding, TornGround};
 use super::{event_names, judged, number, verdict_names, Counts};
 use crate::event::Event;
 use crate::sets::all_below;
@@ -81,6 +81,13 @@ impl ComparisonTally {
             Ok(()) => SOUND.to_string(),
             Err(refusal) => check(CheckGround::of(words, *refusal)),
         });
+        if let Some(crowding) = found.err().and_then(|it| Crowding::of(words, it)) {
+            self.counts.add(check(crowding));
+        }
+        let tasks = reference::check(words).map_or(Vec::new(), |table| table.tasks);
+        for around in tasks.iter().flat_map(grounds::filled) {
+            self.counts.add(filled(around));
+        }
     }
 
     pub fn verdict(&mut self, words: &[u32], verdict: &Verdict) {
@@ -170,8 +177,15 @@ fn torn(ground: TornGround) -> String {
     format!("TORN by this alone: {ground}")
 }
 
-fn check(ground: CheckGround) -> String {
+fn check(ground: impl Display) -> String {
     format!("check: {ground}")
+}
+
+fn filled(around: usize) -> String {
+    match around {
+        0 => "check: sections fill C to the last tick".to_string(),
+        _ => format!("check: sections fill one at depth {around} to the last tick"),
+    }
 }
 
 fn edge(what: &str) -> String {
@@ -186,6 +200,8 @@ fn all_names() -> Vec<String> {
     names.extend(EDGES.map(|(what, _)| edge(what)));
     names.extend([WIDE, WIDE_ACCEPTED, SOUND].map(str::to_string));
     names.extend(CheckGround::all().into_iter().map(check));
+    names.extend(Crowding::ALL.map(check));
+    names.extend((0..DEPTH).map(filled));
     names.extend(verdict_names());
     names
 }

@@ -2,10 +2,11 @@
 
 use std::fmt::{Display, Formatter, Result as Written};
 
-use reference::limits::{name, COUNT, NEST, RANGE, SHORT, STEP, TABLE_HEAD, TASK_HEAD};
-use reference::limits::{COUNT_LIMIT, DEPTH, END_OF_TIME, ROOM, STEP_WORDS, STORED_TIME};
+use reference::limits::{name, COUNT, CROWDED, NEST, RANGE, SHORT, STEP};
+use reference::limits::{COUNT_LIMIT, DEPTH, END_OF_TIME, ROOM, STORED_TIME};
+use reference::limits::{STEP_WORDS, TABLE_HEAD, TASK_HEAD};
 use reference::state::contains;
-use reference::{Refusal, State, Table};
+use reference::{Refusal, State, Step, Table, Task};
 
 use crate::draw::tables::end_of_plan;
 use crate::sets::all_below;
@@ -104,7 +105,7 @@ impl Display for TornGround {
     }
 }
 
-/// The grounds on which a list of words is refused (01, "When the table check says no").
+/// The grounds on which a list of words is refused (01, "When the table check says no", and request 105).
 #[derive(Clone, Copy, PartialEq, Eq, Debug)]
 pub enum CheckGround {
     WordMissing,
@@ -127,6 +128,8 @@ pub enum CheckGround {
     TooDeep,
     LongerThanAround,
     EndsHolding,
+    /// The sections claim more than what is right around them, which is C or another section: by how many sections are around them.
+    Crowded(usize),
 }
 
 /// The names of the times at the front of a task's head.
@@ -142,6 +145,7 @@ impl CheckGround {
         all.extend([ResourceNotBelowM, NoLength, LengthAboveC]);
         all.extend([NothingHeld, AlreadyHeld, TooDeep]);
         all.extend([LongerThanAround, EndsHolding]);
+        all.extend((0..DEPTH).map(Crowded));
         all
     }
 
@@ -171,6 +175,7 @@ impl CheckGround {
                 [2, _, _] => CheckGround::UnlockWithResource,
                 _ => CheckGround::Kind,
             },
+            CROWDED => CheckGround::Crowded(level_of(words, refusal).around),
             _ => CheckGround::of_nest(words, refusal),
         }
     }
@@ -211,6 +216,10 @@ impl CheckGround {
             TooDeep => (NEST, "one section too many"),
             LongerThanAround => (NEST, "longer than the section around it"),
             EndsHolding => (NEST, "the plan ends holding something"),
+            Crowded(0) => (CROWDED, "the outermost sections and C"),
+            Crowded(around) => {
+                return (CROWDED, format!("sections inside one at depth {around}"));
+            }
         };
         (number, ground.to_string())
     }
@@ -253,4 +262,113 @@ fn held_before(words: &[u32], task: usize, place: usize) -> Vec<u32> {
         }
     }
     held
+}
+
+/// Where a lock step stands: how many sections are around it, how long what is right around it may take, and what the sections directly
+/// inside that claim before it.
+struct Level {
+    around: usize,
+    most: u32,
+    claimed: u32,
+}
+
+/// The level of the step at the place of a refusal.
+fn level_of(words: &[u32], refusal: Refusal) -> Level {
+    let task = task_around(words, refusal);
+    let cost = words[task + TASK_HEAD - 2];
+    let mut open = vec![(cost, 0)];
+    for step in words[task + TASK_HEAD..refusal.place].chunks_exact(STEP_WORDS) {
+        enter(&mut open, (step[0] == 1).then_some(step[2]));
+    }
+    let (most, claimed) = open[open.len() - 1];
+    Level {
+        around: open.len() - 1,
+        most,
+        claimed,
+    }
+}
+
+/// One step more of a sound plan, a lock of this length or an unlock. `open` has C and the length of each section that is held, and what is
+/// claimed of each.
+fn enter(open: &mut Vec<(u32, u32)>, lock: Option<u32>) {
+    match (lock, open.last_mut()) {
+        (Some(length), Some((_, claimed))) => {
+            *claimed += length;
+            open.push((length, 0));
+        }
+        _ => {
+            open.pop();
+        }
+    }
+}
+
+/// How a refused lock stands to CROWDED.
+#[derive(Clone, Copy, PartialEq, Eq, Debug)]
+pub enum Crowding {
+    /// CROWDED, and one tick less would have passed.
+    ByOneTick,
+    /// STEP, and a sound step of this length would have been CROWDED.
+    AfterStep,
+    /// NEST, and likewise.
+    AfterNest,
+}
+
+impl Crowding {
+    pub const ALL: [Crowding; 3] = [
+        Crowding::ByOneTick,
+        Crowding::AfterStep,
+        Crowding::AfterNest,
+    ];
+
+    /// What is so of a refusal that the second program gave for these words. A length that alone is too long for what is around it doesn't count.
+    pub fn of(words: &[u32], refusal: Refusal) -> Option<Crowding> {
+        let number = refusal.number;
+        if ![STEP, NEST, CROWDED].contains(&number) {
+            return None;
+        }
+        let &[1, _, length] = words.get(refusal.place..refusal.place + STEP_WORDS)? else {
+            return None;
+        };
+        if number == NEST && CheckGround::of(words, refusal) == CheckGround::EndsHolding {
+            return None;
+        }
+        let level = level_of(words, refusal);
+        if length > level.most || level.claimed + length <= level.most {
+            return None;
+        }
+        match number {
+            STEP => Some(Crowding::AfterStep),
+            NEST => Some(Crowding::AfterNest),
+            _ if level.claimed + length == level.most + 1 => Some(Crowding::ByOneTick),
+            _ => None,
+        }
+    }
+}
+
+impl Display for Crowding {
+    fn fmt(&self, f: &mut Formatter) -> Written {
+        f.write_str(match self {
+            Crowding::ByOneTick => "14 CROWDED by one tick",
+            Crowding::AfterStep => "4 STEP that goes before 14 CROWDED",
+            Crowding::AfterNest => "5 NEST that goes before 14 CROWDED",
+        })
+    }
+}
+
+/// Where several sections of a plan fill what is right around them to the last tick: by how many sections are around them.
+pub fn filled(task: &Task) -> Vec<usize> {
+    let mut filled = Vec::new();
+    let mut open = vec![(task.cost, 0)];
+    for step in &task.steps {
+        let (most, claimed) = open[open.len() - 1];
+        let lock = match step {
+            Step::Lock(section) => Some(section.length),
+            Step::Unlock => None,
+        };
+        if lock.is_some_and(|length| claimed > 0 && claimed + length == most) {
+            filled.push(open.len() - 1);
+        }
+        enter(&mut open, lock);
+    }
+    filled
 }

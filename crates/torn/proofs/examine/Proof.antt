@@ -1,7 +1,8 @@
 -- `torn::examine` meets its contract: the finding is `Sound` exactly where the table passes. Assumes nothing.
 use Rattle.table.specs.Said.{Surveyed}
 use Prim.Native.Nat.{ℕ}
-use Rattle.torn.proofs.Grounds.{passed-sound, not-sound, not-told, sound-told, take-end, too-long, table-refused, table-sound, examined, examined-table}
+use Rattle.table.proofs.Findings as findings
+use Rattle.torn.proofs.Grounds.{passed-sound, not-sound, sound-told, take-end, too-long, table-refused, table-sound, examined, examined-table}
 use Rattle.torn.specs.Torn.{tornBy}
 use Rattle.table.specs.Check.{checkOf}
 use Rattle.table.specs.Map.{tableAt, mapOf}
@@ -55,7 +56,7 @@ returns-2 c =
     let found = c .before .before .before .survey .result .finding in
     examined (a .words .now) (a .used) (a .kept) _ _
     (table-refused (a .words .now) (a .used) (a .kept) (c .before .if1 .left)
-    (not-sound found (checkOf (take (a .used) (a .words .now))) (told (c .before .before)) (not-told found (c .match .keys2))))
+    (not-sound found (checkOf (take (a .used) (a .words .now))) (told (c .before .before)) (findings.not-sound found (c .match .keys2))))
     (mapped (c .before .before))
 
 torn-by-requires : tie.Need-torn-by-requires

@@ -1,6 +1,6 @@
 -- `dispatch::State::start` meets its contract: the state goes with what the check finds. Assumes nothing.
 use Rattle.dispatch.proofs.Begun.{start-refused, start-sound, start-room}
-use Rattle.torn.proofs.Grounds.{not-told}
+use Rattle.table.proofs.Findings.{not-sound}
 use borrow.Author.Needs.{needs}
 use Rattle.dispatch.proofs.State.start.Statement.{statement}
 use Rattle.dispatch.proofs.State.start.Tie as tie
@@ -17,7 +17,7 @@ zero-requires c κs = search needs
 returns : tie.Need-returns
 returns c =
     let check = c .before .before .check in
-    start-refused (c .before .before .before .before .args .words .now) (check .result) _ (check .ensures) (not-told (check .result) (c .before .match .keys2)) (c .zero .ensures)
+    start-refused (c .before .before .before .before .args .words .now) (check .result) _ (check .ensures) (not-sound (check .result) (c .before .match .keys2)) (c .zero .ensures)
 
 fresh-requires : tie.Need-fresh-requires
 fresh-requires c κs = start-room (c .before .before .before .before .args .words .now) (c .before .before .check .result) (c .before .before .check .ensures) (c .enum-told .given .1)

@@ -102,6 +102,12 @@ slice-aggregate-put-text-16 c = search needs
 put-text-requires-16 : tie.Need-put-text-requires-16
 put-text-requires-16 c κs = search needs
 
+slice-aggregate-put-text-17 : tie.Need-slice-aggregate-put-text-17
+slice-aggregate-put-text-17 c = search needs
+
+put-text-requires-17 : tie.Need-put-text-requires-17
+put-text-requires-17 c κs = search needs
+
 same-length : tie.Need-same-length
 same-length c = search needs
 
@@ -214,8 +220,15 @@ returns-16 : tie.Need-returns-16
 unfolding nameIn
 returns-16 c = rw (c .before .before .before .before .before .match .keys16) (c .before .before .put-text16 .ensures)
 
+same-length-17 : tie.Need-same-length-17
+same-length-17 c = search needs
+
 returns-17 : tie.Need-returns-17
-returns-17 c = rw (unnamed (c .before .before .args .number) (c .match .rest)) (none-laid _ _)
+unfolding nameIn
+returns-17 c = rw (c .before .before .before .before .before .match .keys17) (c .before .before .put-text17 .ensures)
+
+returns-18 : tie.Need-returns-18
+returns-18 c = rw (unnamed (c .before .before .args .number) (c .match .rest)) (none-laid _ _)
 
 pub put-name-spec : {M : Type 1} → statement M
 put-name-spec =
@@ -253,6 +266,8 @@ put-name-spec =
     put-text-requires-15
     slice-aggregate-put-text-16
     put-text-requires-16
+    slice-aggregate-put-text-17
+    put-text-requires-17
     same-length
     returns
     same-length-2
@@ -285,4 +300,6 @@ put-name-spec =
     returns-15
     same-length-16
     returns-16
-    returns-17)
+    same-length-17
+    returns-17
+    returns-18)

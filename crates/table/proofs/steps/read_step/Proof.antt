@@ -6,7 +6,7 @@ use lib.ListN.{getD}
 use denote.Ref.{now}
 use Rattle.sets.specs.Member.{width}
 use Rattle.table.specs.Limits.{atResource, atLength}
-use Rattle.table.proofs.Reading.{step-short, step-broken, step-nest, step-goes, lock-below}
+use Rattle.table.proofs.Reading.{step-short, step-broken, step-nest, step-crowded, step-goes, lock-below}
 use borrow.Author.Needs.{needs}
 use Rattle.table.proofs.steps.read_step.Statement.{statement}
 use Rattle.table.proofs.steps.read_step.Tie as tie
@@ -62,21 +62,30 @@ returns-3 c =
     let p = c .before .before .before .before .before .before .before .before .before .pre in
     step-nest (a .resources) (a .cost) (a .sections) (now (a .words)) (a .at) (p .1 .1) (c .before .before .before .before .before .before .before .if1 .left) (c .before .before .before .broken-step .result) (c .before .before .before .broken-step .ensures) (c .before .before .if2 .left) (c .before .broken-nest .result) (c .before .broken-nest .ensures) (c .if3 .taken)
 
-taken-requires : tie.Need-taken-requires
-taken-requires c κs =
-    let a = c .before .before .before .before .before .before .before .before .before .args in
-    let p = c .before .before .before .before .before .before .before .before .before .pre in
-    let w = now (a .words) in
-    let r = getD w (a .at + atResource) 0 in
-    let low : getD w (a .at) 0 ≡ 1 → r < width = λ (k : getD w (a .at) 0 ≡ 1).
-    omega (arith, p .1 .0, lock-below (a .resources) (a .cost) (getD w (a .at) 0) r (getD w (a .at + atLength) 0) (c .before .before .before .broken-step .result) k (c .before .before .before .broken-step .ensures) (c .before .before .if2 .left)) in
-    (p .1 .1, (sym (c .before .broken-nest .ensures) ∙ c .if3 .left, low))
+broken-level-requires : tie.Need-broken-level-requires
+broken-level-requires c κs = search needs
 
 returns-4 : tie.Need-returns-4
 returns-4 c =
-    let a = c .before .before .before .before .before .before .before .before .before .before .args in
-    let p = c .before .before .before .before .before .before .before .before .before .before .pre in
-    step-goes (a .resources) (a .cost) (a .sections) (now (a .words)) (a .at) (p .1 .1) (c .before .before .before .before .before .before .before .before .if1 .left) (c .before .before .before .before .broken-step .result) (c .before .before .before .before .broken-step .ensures) (c .before .before .before .if2 .left) (c .taken .result) (c .before .before .broken-nest .result) (c .before .before .broken-nest .ensures) (c .before .if3 .left) (c .taken .ensures)
+    let a = c .before .before .before .before .before .before .before .before .before .before .before .args in
+    let p = c .before .before .before .before .before .before .before .before .before .before .before .pre in
+    step-crowded (a .resources) (a .cost) (a .sections) (now (a .words)) (a .at) (p .1 .1) (c .before .before .before .before .before .before .before .before .before .if1 .left) (c .before .before .before .before .before .broken-step .result) (c .before .before .before .before .before .broken-step .ensures) (c .before .before .before .before .if2 .left) (c .before .before .before .broken-nest .result) (c .before .before .before .broken-nest .ensures) (c .before .before .if3 .left) (c .before .broken-level .result) (c .before .broken-level .ensures) (c .if4 .taken)
+
+taken-requires : tie.Need-taken-requires
+taken-requires c κs =
+    let a = c .before .before .before .before .before .before .before .before .before .before .before .args in
+    let p = c .before .before .before .before .before .before .before .before .before .before .before .pre in
+    let w = now (a .words) in
+    let r = getD w (a .at + atResource) 0 in
+    let low : getD w (a .at) 0 ≡ 1 → r < width = λ (k : getD w (a .at) 0 ≡ 1).
+    omega (arith, p .1 .0, lock-below (a .resources) (a .cost) (getD w (a .at) 0) r (getD w (a .at + atLength) 0) (c .before .before .before .before .before .broken-step .result) k (c .before .before .before .before .before .broken-step .ensures) (c .before .before .before .before .if2 .left)) in
+    (p .1 .1, (sym (c .before .before .before .broken-nest .ensures) ∙ c .before .before .if3 .left, (sym (c .before .broken-level .ensures) ∙ c .if4 .left, low)))
+
+returns-5 : tie.Need-returns-5
+returns-5 c =
+    let a = c .before .before .before .before .before .before .before .before .before .before .before .before .args in
+    let p = c .before .before .before .before .before .before .before .before .before .before .before .before .pre in
+    step-goes (a .resources) (a .cost) (a .sections) (now (a .words)) (a .at) (p .1 .1) (c .before .before .before .before .before .before .before .before .before .before .if1 .left) (c .before .before .before .before .before .before .broken-step .result) (c .before .before .before .before .before .before .broken-step .ensures) (c .before .before .before .before .before .if2 .left) (c .before .before .before .before .broken-nest .result) (c .before .before .before .before .broken-nest .ensures) (c .before .before .before .if3 .left) (c .taken .result) (c .before .before .broken-level .result) (c .before .before .broken-level .ensures) (c .before .if4 .left) (c .taken .ensures)
 
 pub read-step-spec : {M : Type 1} → statement M
 read-step-spec =
@@ -96,5 +105,7 @@ read-step-spec =
     returns-2
     broken-nest-requires
     returns-3
+    broken-level-requires
+    returns-4
     taken-requires
-    returns-4)
+    returns-5)

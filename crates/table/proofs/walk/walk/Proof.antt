@@ -2,7 +2,7 @@
 -- the plan as the plan (`Steps`), the rest of the tasks as all of them (`Tasks`). Each way out then has its end, and the starts that were
 -- marked on the way are those of `startsFrom` (laws `Marked`). The measures are the steps and the tasks left. Assumes nothing.
 use Prim.Native.Nat.{ℕ, suc, _+_, _*_, _-_, _≤_, _<_}
-use mathlib.Core.Path.{_≡_, refl, sym, _∙_}
+use mathlib.Core.Path.{_≡_, refl, sym, subst, _∙_}
 use mathlib.Core.Bool.{false}
 use mathlib.Core.List.{List, []}
 use native.Mathlib.Omega.{arith}
@@ -12,8 +12,8 @@ use denote.Ref.{now}
 use Rattle.numbers.specs.Answers.{NEST}
 use Rattle.numbers.proofs.Tests.{never}
 use Rattle.table.specs.Limits.{atTasks, atPlan, stepSize}
-use Rattle.table.specs.Check.{Read, got, bad, nothingHeld, planIn, taskIn, tasksIn}
-use Rattle.table.specs.Walk.{endOf, stoppedBy, sectionsIn, Fair, Leaves, HeadJudged}
+use Rattle.table.specs.Check.{Read, got, bad, nothingHeld, taskIn, tasksIn}
+use Rattle.table.specs.Walk.{endOf, stoppedBy, sectionsIn, spareIn, Standing, standingFirst, standingIn, planFrom, Fair, Leaves, HeadJudged}
 use Rattle.table.specs.Map.{behind}
 use Rattle.table.specs.declared.Finding.{Finding}
 use Rattle.table.specs.declared.Finding.the-variants.{Sound, Nest}
@@ -32,7 +32,7 @@ record Steps (words : List ℕ) (resources : ℕ) (cost left₀ at₀ : ℕ) (se
   room : at ≤ length words
   fair : Fair sections
   place : at + stepSize * left ≡ at₀ + stepSize * left₀
-  goes : endOf (planIn left resources cost (sectionsIn sections) words at) ≡ endOf (planIn left₀ resources cost (sectionsIn sections₀) words at₀)
+  goes : endOf (planFrom left resources cost (standingIn sections) words at) ≡ endOf (planFrom left₀ resources cost (standingIn sections₀) words at₀)
 
 -- Before each task: what is left of the table ends as the whole table does.
 record Tasks (words : List ℕ) (tasks resources : ℕ) (finding : Finding) (starts : List ℕ) (at task : ℕ) : Type 0 where
@@ -50,9 +50,10 @@ turn words tasks resources finding starts at task h inv =
     rw e at (inv .goes)
 
 -- A task ends where its plan does.
-task-ends : (m : ℕ) (ws : List ℕ) (at : ℕ) (head : Head) → HeadJudged ws at head → head .finding ≡ Sound → (sections₀ : Sections) → Leaves [] sections₀ →
-    (x : Read (Unit {0})) → endOf (planIn (head .steps) m (head .cost) (sectionsIn sections₀) ws (at + atPlan)) ≡ x → endOf (taskIn m ws at) ≡ x
-task-ends m ws at head judged n sections₀ l x e = head-goes 0 m ws at head judged n ∙ rw (l .held-is) at e
+task-ends : (m : ℕ) (ws : List ℕ) (at : ℕ) (head : Head) → HeadJudged ws at head → head .finding ≡ Sound → (sections₀ : Sections) → Leaves (standingFirst (head .cost)) sections₀ →
+    (x : Read (Unit {0})) → endOf (planFrom (head .steps) m (head .cost) (standingIn sections₀) ws (at + atPlan)) ≡ x → endOf (taskIn m ws at) ≡ x
+task-ends m ws at head judged n sections₀ l x e = head-goes 0 m ws at head judged n
+    ∙ subst (λ (standing : Standing). endOf (planFrom (head .steps) m (head .cost) standing ws (at + atPlan)) ≡ x) (l .stands) e
 
 abbrev Inv-loop : tie.InvT-loop
 Inv-loop words tasks resources finding₀ starts at₀ task head sections₀ left₀ finding at sections left =
@@ -139,7 +140,7 @@ loop-again c =
     let h = c .before .before .before .before .before .before .before .before .before .read-head .result in
     let n : s .result .finding ≡ Sound = c .before .enum-told2 .given .1 in
     let e : l .left ≡ suc (l .left - 1) = omega (arith, c .before .before .before .before .loop-test .taken) in
-    let g : endOf (planIn (suc (l .left - 1)) (a .resources) (h .cost) (sectionsIn (l .sections)) ws (l .at)) ≡ _ = rw e at (l .inv .goes) in
+    let g : endOf (planFrom (suc (l .left - 1)) (a .resources) (h .cost) (standingIn (l .sections)) ws (l .at)) ≡ _ = rw e at (l .inv .goes) in
     record {
       none = l .inv .none;
       room = s .ensures .room n;
@@ -168,10 +169,10 @@ tasks-again c =
     let o : l .left ≡ 0 = omega (arith, c .before .before .loop-test .left) in
     let q : l .at ≡ behind ws (t .at) = omega (arith, o, l .inv .place, head-place 0 (a .resources) ws (t .at) (h .result) (h .ensures) n) in
     let y : sectionsIn (l .sections) ≡ [] = nothing-flat (l .sections .depth) (l .sections .resources) (l .sections .lengths) (c .if1 .left) in
-    let v : endOf (planIn 0 (a .resources) (h .result .cost) (sectionsIn (l .sections)) ws (l .at)) ≡ _ = rw o at (l .inv .goes) in
+    let v : endOf (planFrom 0 (a .resources) (h .result .cost) (standingIn (l .sections)) ws (l .at)) ≡ _ = rw o at (l .inv .goes) in
     let x : endOf (taskIn (a .resources) ws (t .at)) ≡ got tt (l .at) =
     task-ends (a .resources) ws (t .at) (h .result) (h .ensures) n (z .result) (z .ensures) (got tt (l .at))
-    (sym v ∙ plan-ends (a .resources) (h .result .cost) (sectionsIn (l .sections)) ws (l .at) y) in
+    (sym v ∙ plan-ends (a .resources) (h .result .cost) (sectionsIn (l .sections)) (spareIn (l .sections)) ws (l .at) y) in
     record {
       none = l .inv .none;
       within = omega arith;
@@ -218,7 +219,7 @@ returns-3 c =
     let s = c .before .read-step in
     let n = not-sound (s .result .finding) (c .match2 .keys2) in
     let e : l .left ≡ suc (l .left - 1) = omega (arith, c .before .before .loop-test .taken) in
-    let g : endOf (planIn (suc (l .left - 1)) (a .resources) (h .result .cost) (sectionsIn (l .sections)) ws (l .at)) ≡ _ = rw e at (l .inv .goes) in
+    let g : endOf (planFrom (suc (l .left - 1)) (a .resources) (h .result .cost) (standingIn (l .sections)) ws (l .at)) ≡ _ = rw e at (l .inv .goes) in
     let x : endOf (taskIn (a .resources) ws (t .at)) ≡ stoppedBy (s .result .finding) (got tt (l .at)) =
     task-ends (a .resources) ws (t .at) (h .result) (h .ensures) (c .before .before .before .before .before .enum-told .given .1) (z .result) (z .ensures) (stoppedBy (s .result .finding) (got tt (l .at)))
     (sym g ∙ step-off (l .left - 1) (a .resources) (h .result .cost) (l .sections) ws (l .at) (s .result) (s .ensures) n (l .at)) in
@@ -238,10 +239,10 @@ returns-4 c =
     let z = c .before .before .before .before .nothing-held in
     let o : l .left ≡ 0 = omega (arith, c .before .before .loop-test .left) in
     let y : nothingHeld (sectionsIn (l .sections)) ≡ false = nothing-deep (l .sections .depth) (l .sections .resources) (l .sections .lengths) (c .if1 .taken) in
-    let v : endOf (planIn 0 (a .resources) (h .result .cost) (sectionsIn (l .sections)) ws (l .at)) ≡ _ = rw o at (l .inv .goes) in
+    let v : endOf (planFrom 0 (a .resources) (h .result .cost) (standingIn (l .sections)) ws (l .at)) ≡ _ = rw o at (l .inv .goes) in
     let x : endOf (taskIn (a .resources) ws (t .at)) ≡ bad NEST (l .at) =
     task-ends (a .resources) ws (t .at) (h .result) (h .ensures) (c .before .before .before .before .before .enum-told .given .1) (z .result) (z .ensures) (bad NEST (l .at))
-    (sym v ∙ plan-holds (a .resources) (h .result .cost) (sectionsIn (l .sections)) ws (l .at) y) in
+    (sym v ∙ plan-holds (a .resources) (h .result .cost) (sectionsIn (l .sections)) (spareIn (l .sections)) ws (l .at) y) in
     record {
       reads = sym (turn ws (a .tasks) (a .resources) (t .finding) (t .starts) (t .at) (t .task) (c .before .before .before .before .before .before .before .before .tasks-test .taken) (t .inv))
           ∙ refused-task (a .tasks - (t .task + 1)) (a .resources) ws (t .at) (l .at) (Nest (l .at)) (λ q. never (cc)) x;

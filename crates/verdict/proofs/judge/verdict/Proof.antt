@@ -4,12 +4,9 @@
 use Rattle.table.specs.Said.{Surveyed}
 use Prim.Native.Nat.{ℕ}
 use mathlib.Core.Path.{_≡_, refl, sym, subst, ap, _∙_}
-use mathlib.Core.Logic.{_≢_, inl, inr}
-use mathlib.Core.List.{List, [], _∷_}
-use native.Mathlib.Omega.{arith}
+use mathlib.Core.Logic.{_≢_}
+use mathlib.Core.List.{List}
 use borrow.Author.Needs.{needs}
-use denote.Enum.Declared.{tagOf}
-use types.Run.{OneOf}
 use Rattle.table.specs.Table.{Table}
 use Rattle.table.specs.Check.{Checked, sound, refused, checkOf}
 use Rattle.table.specs.Map.{tableAt, mapOf}
@@ -17,9 +14,7 @@ use Rattle.table.specs.Valid.{Valid}
 use Rattle.table.specs.Said.{saidOf, findingSaid, checkSaid, passes}
 use Rattle.table.specs.Said as checks
 use Rattle.table.specs.declared.Map.{Map}
-use Rattle.table.specs.declared.Finding.{Finding}
-use Rattle.table.specs.declared.Finding.the-variants.{Sound, Short, Count, Range, Step, Nest}
-use Rattle.table.proofs.Finding.{the-type}
+use Rattle.table.proofs.Findings.{not-sound, is-sound}
 use Rattle.numbers.proofs.Tests.{never}
 use Rattle.table.proofs.Laws.{checked-valid, table-at}
 use Rattle.verdict.specs.Verdict.{VerdictReply, judge, verdictOf}
@@ -62,25 +57,6 @@ refuses ws said n e = go (checkOf ws) refl
     go (sound t) q = absurd (n (e ∙ ap findingSaid q))
     go (refused number place) q = ap refusalSaid (e ∙ ap findingSaid q) ∙ sym (verdict-refused ws number place q)
 
--- the variants behind the first
-abbrev others : List ℕ
-others = 1 ∷ 2 ∷ 3 ∷ 4 ∷ 5 ∷ []
-
-not-first : OneOf others 0 → ⊥
-not-first (inl e) = omega arith
-not-first (inr (inl e)) = omega arith
-not-first (inr (inr (inl e))) = omega arith
-not-first (inr (inr (inr (inl e)))) = omega arith
-not-first (inr (inr (inr (inr e)))) = omega arith
-
-not-sound : (finding : Finding) → OneOf others (tagOf the-type finding) → saidOf finding ≢ passes
-not-sound Sound k e = not-first k
-not-sound (Short place) k e = never (cc)
-not-sound (Count place) k e = never (cc)
-not-sound (Range place) k e = never (cc)
-not-sound (Step place) k e = never (cc)
-not-sound (Nest place) k e = never (cc)
-
 survey-requires : tie.Need-survey-requires
 survey-requires c κs = search needs
 
@@ -102,7 +78,8 @@ returns c =
 returns-2 : tie.Need-returns-2
 returns-2 c =
     let s = c .before .before .before in
-    refuses (s .args .words .now) _ (not-sound (c .before .survey .result .finding) (c .match .keys2)) ((ap (λ (x : Surveyed). x .said) (c .before .survey .ensures)))
+    let found = c .before .survey .result .finding in
+    refuses (s .args .words .now) (saidOf found) (λ e. not-sound found (c .match .keys2) (is-sound found e)) ((ap (λ (x : Surveyed). x .said) (c .before .survey .ensures)))
 
 pub verdict-spec : {M : Type 1} → statement M
 verdict-spec = tie.close (tie.spec survey-requires enum-told judge-requires returns returns-2)
