@@ -64,8 +64,8 @@ job_cells_lem job rest whole = λ i. record {
   base = job.base;
   active = job.active;
   number = job.number;
-  place = low_half job.place whole.place-half i;
-  saved = four job.saved whole.four-saved i;
+  place = low_half job.place whole.place_half i;
+  saved = four job.saved whole.four_saved i;
   last = job.last;
 }
 
@@ -89,15 +89,15 @@ decode_encode s whole =
     let back = s.length ∷ kept_cells s.kept in
     let all : length front ≡ length_at = length_packed length_at s.words whole.all_words in
     let words_back : unpacked (take length_at (front ++ back)) ≡ s.words =
-    ap unpacked (take_at front back length_at all) ∙ unpacked_packed length_at s.words whole.all_words whole.words-half in
+    ap unpacked (take_at front back length_at all) ∙ unpacked_packed length_at s.words whole.all_words whole.words_half in
     let ready_back : low (get_or (front ++ back) ready_at 0) ≡ s.kept.ready =
-    ap low (behind_at front back length_at 3 all) ∙ low_half s.kept.ready whole.ready-half in
+    ap low (behind_at front back length_at 3 all) ∙ low_half s.kept.ready whole.ready_half in
     let had-back : low (get_or (front ++ back) had_at 0) ≡ s.kept.had =
-    ap low (behind_at front back length_at 4 all) ∙ low_half s.kept.had whole.had-half in
+    ap low (behind_at front back length_at 4 all) ∙ low_half s.kept.had whole.had_half in
     let rows_back : jobs_in most_tasks (drop rows_at (front ++ back)) ≡ s.kept.rows =
     ap (jobs_in most_tasks) (behind_drop front back length_at 5 all)
-    ∙ ap (λ (n : ℕ). jobs_in n (row_cells s.kept.rows)) (sym whole.all-rows)
-    ∙ jobs_cells s.kept.rows whole.rows-typed in
+    ∙ ap (λ (n : ℕ). jobs_in n (row_cells s.kept.rows)) (sym whole.all_rows)
+    ∙ jobs_cells s.kept.rows whole.rows_typed in
     λ i. record {
       words = words_back i;
       length = behind_at front back length_at 0 all i;

@@ -58,7 +58,7 @@ over_old image heard whole kept =
     let cells = kept_cells heard.state.kept in
     ap (λ l. l ++ cells) (take-suc image length_at 0 (omega arith))
     ∙ append_snoc (take length_at image) (get_or image length_at 0) cells
-    ∙ ap (λ l. l ++ (get_or image length_at 0 ∷ cells)) (sym (packed_unpacked (take length_at image)) ∙ ap packed (sym kept.same-words))
+    ∙ ap (λ l. l ++ (get_or image length_at 0 ∷ cells)) (sym (packed_unpacked (take length_at image)) ∙ ap packed (sym kept.same_words))
     ∙ ap (λ n. packed heard.state.words ++ (n ∷ cells)) (sym kept.same_length)
 
 -- So the image that a call leaves is the one that is promised.

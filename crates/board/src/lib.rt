@@ -1,5 +1,7 @@
 // What a controller links: the check, the start, the two events and the verdict, as C functions over numbers, a slice and two arrays of fixed length. A state travels as
 // its image and an answer as five numbers; nothing is kept between calls and nothing is allocated.
+#![tactic(auto)]
+
 mod answer;
 mod events;
 mod image;

@@ -48,17 +48,17 @@ module _ (run : Run) (facts : Facts run) (floors : Floors run) where
   released_plain {p} {x} {d} {a} r h act = pick (floors.plain h act)
     where
       pick : (run.Holding (suc p) x) ⊎ (a ≡ d) → a ≡ d
-      pick (inl o) = let early = facts.later r (facts.holding-ready (facts.holding-released r o)).1 in absurd (omega arith)
+      pick (inl o) = let early = facts.later r (facts.holding_ready (facts.holding_released r o)).1 in absurd (omega arith)
       pick (inr e) = e
 
   -- A job that has had its first turn was released before.
   started_ready : {p x d : ℕ} → Started run p x → run.Ready (suc p) x d → run.Ready p x d
-  started_ready {p} {x} {d} s h = pick (facts.ready-back h)
+  started_ready {p} {x} {d} s h = pick (facts.ready_back h)
     where
       pick : (run.Ready p x d) ⊎ (run.Released p x) → run.Ready p x d
       pick (inl r) = r
       pick (inr r) =
-          let late = facts.later r (facts.running-ready (floors.named-running s.named)).1 in
+          let late = facts.later r (facts.running_ready (floors.named_running s.named)).1 in
           absurd (omega (arith, s.before))
 
   -- The running job's active deadline is before the base deadline of every other.
@@ -66,7 +66,7 @@ module _ (run : Run) (facts : Facts run) (floors : Floors run) where
   running_before {p} {x} {y} {d} {a} r act h = pick (floors.least r act c.1)
     where
       c : (b : ℕ) × floors.Active p x b × (b ≤ d)
-      c = floors.has-active h
+      c = floors.has_active h
 
       pick : (y ≡ x) ⊎ (Sooner a y c.0 x) → (y ≡ x) ⊎ (Sooner a y d x)
       pick (inl e) = inl e
@@ -75,31 +75,31 @@ module _ (run : Run) (facts : Facts run) (floors : Floors run) where
   -- Who comes after x by base is another job.
   other_job : {p x y d e : ℕ} → run.Ready p x d → run.Ready p y e → Sooner d x e y → y ≡ x → ⊥
   other_job {p} {x} {y} {d} {e} h k s same =
-      sooner_not (omega (arith, facts.one-base h (subst (λ (z : ℕ). run.Ready p z e) same k))) (subst (λ (z : ℕ). Sooner d x e z) same s)
+      sooner_not (omega (arith, facts.one_base h (subst (λ (z : ℕ). run.Ready p z e) same k))) (subst (λ (z : ℕ). Sooner d x e z) same s)
 
   -- One event keeps Ahead for a job that had its first turn before it.
   ahead_kept : (p : ℕ) → Ahead run floors p → {x y d e a : ℕ} → Started run p x → run.Ready (suc p) x d → run.Ready (suc p) y e →
       floors.Active (suc p) y a → Sooner d x e y → Sooner d x a y
-  ahead_kept p ih {x} {y} {d} {e} {a} s h k act less = pick (facts.ready-back k)
+  ahead_kept p ih {x} {y} {d} {e} {a} s h k act less = pick (facts.ready_back k)
     where
       ready : run.Ready p x d
       ready = started_ready s h
 
       runs : run.Ready p y e → run.Running p y → ⊥
       runs old r =
-          let c = floors.has-active old in
-          let first = ih.base-before s ready old c.1 less in
+          let c = floors.has_active old in
+          let first = ih.base_before s ready old c.1 less in
           elim (running_before r c.1 ready) [
             | inl q ↦ other_job ready old less q
             | inr q ↦ sooner_one_way first q
           ]
 
       changes : run.Ready p y e → (floors.Active p y a) ⊎ (run.Running p y) → Sooner d x a y
-      changes old (inl b) = ih.base-before s ready old b less
+      changes old (inl b) = ih.base_before s ready old b less
       changes old (inr r) = absurd (runs old r)
 
       pick : (run.Ready p y e) ⊎ (run.Released p y) → Sooner d x a y
-      pick (inl old) = changes old (floors.active-back old act)
+      pick (inl old) = changes old (floors.active_back old act)
       pick (inr new) = rw (released_plain new k act) less
 
   -- One event brings Ahead: a job at its first turn runs and holds nothing, so its base deadline is its active one.
@@ -116,9 +116,9 @@ module _ (run : Run) (facts : Facts run) (floors : Floors run) where
 
       first : run.Running (suc p) x → Sooner d x a y
       first r =
-          let c = floors.has-active h in
+          let c = floors.has_active h in
           elim (floors.plain h c.1) [
-            | inl o ↦ kept (entered (facts.holding-back o))
+            | inl o ↦ kept (entered (facts.holding_back o))
             | inr q ↦ elim (floors.least r c.1 act) [
               | inl z ↦ absurd (other_job h k less (sym z))
               | inr z ↦ rw q at z
@@ -126,7 +126,7 @@ module _ (run : Run) (facts : Facts run) (floors : Floors run) where
           ]
 
       pick : (suc s.event ≡ suc p) ⊎ (suc s.event < suc p) → Sooner d x a y
-      pick (inl q) = let same : s.event ≡ p = omega arith in first (floors.named-running (rw same at s.named))
+      pick (inl q) = let same : s.event ≡ p = omega arith in first (floors.named_running (rw same at s.named))
       pick (inr l) = kept (record { event = s.event; before = omega arith; named = s.named })
 
   -- Ahead holds at every position.
@@ -139,8 +139,8 @@ module _ (run : Run) (facts : Facts run) (floors : Floors run) where
   -- A started job is never blocked: the running job would be before it.
   started_not_blocked : {p x y : ℕ} → Started run p x → Blocks run p x y → ⊥
   started_not_blocked {p} {x} {y} s b =
-      let c = floors.has-active b.runs in
-      let first = (ahead p).base-before s b.ready b.runs c.1 b.after in
+      let c = floors.has_active b.runs in
+      let first = (ahead p).base_before s b.ready b.runs c.1 b.after in
       elim (running_before b.running c.1 b.ready) [
         | inl q ↦ other_job b.ready b.runs b.after q
         | inr q ↦ sooner_one_way first q
@@ -149,7 +149,7 @@ module _ (run : Run) (facts : Facts run) (floors : Floors run) where
   -- A blocker stands in the way.
   blocker_lowered : {p x y : ℕ} → Blocks run p x y → Lowered run floors p x y
   blocker_lowered {p} {x} {y} b =
-      let c = floors.has-active b.runs in
+      let c = floors.has_active b.runs in
       record {
         base = b.base;
         other = b.other;
@@ -173,7 +173,7 @@ module _ (run : Run) (facts : Facts run) (floors : Floors run) where
 
   -- Nobody comes to stand in the way of a ready job: who is not in it does not run, and a new job's active deadline is its base.
   lowered_back : {p x y d : ℕ} → run.Ready p x d → Lowered run floors (suc p) x y → Lowered run floors p x y
-  lowered_back {p} {x} {y} {d} h w = ready (facts.ready-back w.ready)
+  lowered_back {p} {x} {y} {d} h w = ready (facts.ready_back w.ready)
     where
       build : (a : ℕ) → run.Ready p x w.base → run.Ready p y w.other → floors.Active p y a → Sooner a y w.base x → Lowered run floors p x y
       build a r old act less =
@@ -190,7 +190,7 @@ module _ (run : Run) (facts : Facts run) (floors : Floors run) where
 
       runs : run.Ready p x w.base → run.Ready p y w.other → run.Running p y → Lowered run floors p x y
       runs r old run-y =
-          let c = floors.has-active old in
+          let c = floors.has_active old in
           elim (running_before run-y c.1 r) [
             | inl q ↦ absurd (other_job r old w.after q)
             | inr q ↦ build c.0 r old c.1 q
@@ -202,19 +202,19 @@ module _ (run : Run) (facts : Facts run) (floors : Floors run) where
       changes r old (inr run-y) = runs r old run-y
 
       stands : run.Ready p x w.base → (run.Ready p y w.other) ⊎ (run.Released p y) → Lowered run floors p x y
-      stands r (inl old) = changes r old (floors.active-back old w.actively)
+      stands r (inl old) = changes r old (floors.active_back old w.actively)
       stands r (inr new) =
           absurd (sooner_one_way w.after (rw (released_plain new w.stands w.actively) at w.ahead))
 
       ready : (run.Ready p x w.base) ⊎ (run.Released p x) → Lowered run floors p x y
-      ready (inl r) = stands r (facts.ready-back w.stands)
+      ready (inl r) = stands r (facts.ready_back w.stands)
       ready (inr new) = let late = facts.later new h in absurd (omega arith)
 
   -- One at a time: of two, both have had their first turn, and the one with the smaller base would be ahead of the other.
   lowered_two : {p x y z : ℕ} (v : Lowered run floors p x y) (w : Lowered run floors p x z) → Sooner v.other y w.other z → ⊥
   lowered_two {p} {x} {y} {z} v w less =
-      let same : v.base ≡ w.base = facts.one-base v.ready w.ready in
-      let first = (ahead p).base-before (holding_started run facts p y (lowered_holds v)) v.stands w.stands w.actively less in
+      let same : v.base ≡ w.base = facts.one_base v.ready w.ready in
+      let first = (ahead p).base_before (holding_started run facts p y (lowered_holds v)) v.stands w.stands w.actively less in
       sooner_one_way first (sooner_trans w.ahead (rw same at v.after))
 
   lowered_one : {p x y z : ℕ} → Lowered run floors p x y → Lowered run floors p x z → y ≡ z

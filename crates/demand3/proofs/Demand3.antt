@@ -67,7 +67,7 @@ module _ (ws : List ℕ) (table : Table) (ok : check_of ws ≡ sound table) wher
 
   -- Who blocks anybody is who runs.
   one_blocker_lem : (events : List Event) (p x y x' y' : ℕ) → Blocked (state_at ws events p) x y → Blocked (state_at ws events p) x' y' → y ≡ y'
-  one_blocker_lem events p x y x' y' b c = (facts ws table ok events).running-one {p = p} (b.other, b.running) (c.other, c.running)
+  one_blocker_lem events p x y x' y' b c = (facts ws table ok events).running_one {p = p} (b.other, b.running) (c.other, c.running)
 
 -- Demand 3: a table that passes the check never sticks.
 pub demand3 : (ws : List ℕ) (table : Table) → check_of ws ≡ sound table → Demand3 ws

@@ -84,8 +84,8 @@ module _ (run : Run) (facts : Facts run) where
 
   -- The running job has had its first turn: the last accepted reply named it.
   pub running_started : (p x : ℕ) → run.Running p x → Started run p x
-  running_started zero x h = absurd (facts.nobody (facts.running-ready h).1)
-  running_started (suc p) x h = go (running_started p x) (facts.running-back h)
+  running_started zero x h = absurd (facts.nobody (facts.running_ready h).1)
+  running_started (suc p) x h = go (running_started p x) (facts.running_back h)
     where
       go : (run.Running p x → Started run p x) → (run.Named p x) ⊎ (run.Running p x) → Started run (suc p) x
       go ih (inl n) = record { event = p; before = omega arith; named = n }
@@ -93,8 +93,8 @@ module _ (run : Run) (facts : Facts run) where
 
   -- Only a job that has had its first turn holds anything.
   pub holding_started : (p x : ℕ) → run.Holding p x → Started run p x
-  holding_started zero x h = absurd (facts.nobody (facts.holding-ready h).1)
-  holding_started (suc p) x h = started_later (go (holding_started p x) (facts.holding-back h))
+  holding_started zero x h = absurd (facts.nobody (facts.holding_ready h).1)
+  holding_started (suc p) x h = started_later (go (holding_started p x) (facts.holding_back h))
     where
       go : (run.Holding p x → Started run p x) → (run.Holding p x) ⊎ (run.Entered p x × run.Running p x) → Started run p x
       go ih (inl b) = ih b
@@ -102,8 +102,8 @@ module _ (run : Run) (facts : Facts run) where
 
   -- Who holds something is inside an outermost section, entered at some event.
   pub holding_within : (p x : ℕ) → run.Holding p x → (q : ℕ) × Within run q p x
-  holding_within zero x h = absurd (facts.nobody (facts.holding-ready h).1)
-  holding_within (suc p) x h = go (holding_within p x) (facts.holding-back h)
+  holding_within zero x h = absurd (facts.nobody (facts.holding_ready h).1)
+  holding_within (suc p) x h = go (holding_within p x) (facts.holding_back h)
     where
       last : (q : ℕ) → (((r : ℕ) → q < r → r ≤ p → run.Holding r x)) → (r : ℕ) → q < r → r ≤ suc p → run.Holding r x
       last q f r a b = pick (eq-or-lt_of_le b)
@@ -125,7 +125,7 @@ module _ (run : Run) (facts : Facts run) where
   one_entry {q} {r} {p} {x} v w = pick (compared q r)
     where
       two : {a b : ℕ} → Within run a p x → Within run b p x → a < b → ⊥
-      two {a} {b} f g l = facts.entered-free g.entered (f.between b l (omega (arith, g.since)))
+      two {a} {b} f g l = facts.entered_free g.entered (f.between b l (omega (arith, g.since)))
 
       pick : Compared q r → q ≡ r
       pick (less l) = absurd (two v w l)
@@ -153,7 +153,7 @@ pub record EntersBefore (run : Run) (p x y : ℕ) : Type 0 where
 module _ (run : Run) (facts : Facts run) (policy : Policy run) where
   pub since_release : (p x y d : ℕ) → run.Ready p x d → policy.InTheWay p x y → Since run policy p x y
   since_release zero x y d h w = absurd (facts.nobody h)
-  since_release (suc p) x y d h w = go (since_release p x y d) (facts.ready-back h)
+  since_release (suc p) x y d h w = go (since_release p x y d) (facts.ready_back h)
     where
       last : (m : ℕ) → ((r : ℕ) → m < r → r ≤ p → policy.InTheWay r x y) → (r : ℕ) → m < r → r ≤ suc p → policy.InTheWay r x y
       last m f r a b = pick (eq-or-lt_of_le b)
@@ -192,7 +192,7 @@ module _ (run : Run) (facts : Facts run) (policy : Policy run) where
       after = policy.holds (s.stands (suc m) (omega arith) s.before)
 
       w : (q : ℕ) × Within run q m y
-      w = holding_within run facts m y (facts.holding-released s.released after)
+      w = holding_within run facts m y (facts.holding_released s.released after)
 
       pick : (r : ℕ) → w.0 < r → r ≤ p → Compared m r → run.Holding r y
       pick r a b (less l) = policy.holds (s.stands r l b)

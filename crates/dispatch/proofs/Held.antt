@@ -40,7 +40,7 @@ plan_nests table i valid = go (ltb i (tasks_of table)) refl
         (sym (get_or-eq_default table.tasks no_task (ltb-false i (tasks_of table) e))) ends
 
 fits : (table : Table) → Valid table → table.resources ≤ width
-fits table valid = let l = valid.resources-most in omega arith
+fits table valid = let l = valid.resources_most in omega arith
 
 pub held_size : (table : Table) (kept : Kept) (i : ℕ) → Valid table → size_of (held_set (held_of table kept i)) ≡ length (held_of table kept i)
 held_size table kept i valid = size_held (fits table valid) (plan_nests table i valid) (row_of kept i).place

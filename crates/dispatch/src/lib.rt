@@ -1,4 +1,6 @@
 // The dispatcher of document 01: a state made from a checked table, and two events on it, each answered with who runs.
+#![tactic(auto)]
+
 mod change; // change.rt: what a move does to a row
 pub mod event; // event.rt: an event on a state's parts, TORN included
 mod moves; // moves.rt: the four moves
@@ -17,7 +19,7 @@ use table::Finding;
 use table::limits::ROOM;
 
 // The words of a table, with their length, and what is kept.
-#[derive(Drop)]
+#[derive(Clone, Copy)]
 pub struct State {
     pub words: [u32; ROOM],
     pub length: usize,
@@ -25,14 +27,14 @@ pub struct State {
 }
 
 // "runs" with task number and active deadline, or "idle".
-#[derive(Drop)]
+#[derive(Clone, Copy)]
 pub enum Turn {
     Runs(u32, u64),
     Idle,
 }
 
 // Why an event is turned away.
-#[derive(Drop)]
+#[derive(Clone, Copy)]
 pub enum Refusal {
     Torn,
     Back,
@@ -61,7 +63,7 @@ impl Refusal {
 }
 
 // What an event answers.
-#[derive(Drop)]
+#[derive(Clone, Copy)]
 pub enum Reply {
     Refused(Refusal),
     WentOn(Turn),
@@ -69,21 +71,21 @@ pub enum Reply {
 }
 
 // The state, handed back whole, and the reply.
-#[derive(Drop)]
+#[derive(Clone, Copy)]
 pub struct Answer {
     pub state: State,
     pub reply: Reply,
 }
 
 // What is kept after an event, and the reply. The words stay with the caller.
-#[derive(Drop)]
+#[derive(Clone, Copy)]
 pub struct Outcome {
     pub kept: Kept,
     pub reply: Reply,
 }
 
 // What a start answers: the check's finding, and the state.
-#[derive(Drop)]
+#[derive(Clone, Copy)]
 pub struct Started {
     pub finding: Finding,
     pub state: State,

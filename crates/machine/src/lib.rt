@@ -1,4 +1,6 @@
 // The machine of document 01, "The machine's rules": what is kept of a job and of the whole, and who runs.
+#![tactic(auto)]
+
 pub mod places; // places.rt: where a state's numbers stand
 
 ghost use Rattle.std.specs.Prelude.{◌≡◌};
@@ -8,7 +10,7 @@ ghost use Rattle.machine.specs.Leader.{ahead_of, better_of};
 use table::limits::{MOST_HELD, MOST_TASKS, TASKS};
 
 // What is kept for a task: its job's numbers, all zero where it has none, and the task's last accepted release.
-#[derive(Drop)]
+#[derive(Clone, Copy)]
 pub struct Job {
     pub base: u64,
     pub active: u64,
@@ -19,7 +21,7 @@ pub struct Job {
 }
 
 // Everything that changes: the clock, the count of accepted releases, which jobs are ready, which tasks have had a release, and a row a task.
-#[derive(Drop)]
+#[derive(Clone, Copy)]
 pub struct Kept {
     pub clock: u64,
     pub count: u64,
@@ -29,14 +31,14 @@ pub struct Kept {
 }
 
 // Who runs: the task of a ready job, or nobody.
-#[derive(Drop)]
+#[derive(Clone, Copy)]
 pub enum Who {
     Runs(u32),
     Nobody,
 }
 
 // The best row so far, with its two numbers, so that no row is read twice.
-#[derive(Drop)]
+#[derive(Clone, Copy)]
 struct Leader {
     who: Who,
     active: u64,

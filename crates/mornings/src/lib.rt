@@ -1,1 +1,2 @@
 // No code: the marked mornings of document 01.
+#![tactic(auto)]

@@ -1,4 +1,6 @@
 // What every crate counts with: document 01's numbers of what is answered, and the lesser and the greater of two numbers.
+#![tactic(auto)]
+
 pub mod answers;
 
 ghost use Rattle.std.specs.Prelude.{◌≡◌, min, max};

@@ -191,8 +191,8 @@ pub lawqendo_start_pinned : (words image image' answer answer' : List ℕ) (r r'
     StartLeaves words image answer × (r ≡ first_number (start_answer words)) → StartLeaves words image' answer' × (r' ≡ first_number (start_answer words)) →
     (image ≡ image') × (answer ≡ answer') × (r ≡ r')
 lawqendo_start_pinned words image image' answer answer' r r' p q = (
-  pinned_plain (start_image words) image image' p.0.image-is q.0.image-is,
-  pinned_plain (start_answer words) answer answer' p.0.answer-is q.0.answer-is,
+  pinned_plain (start_image words) image image' p.0.image_is q.0.image_is,
+  pinned_plain (start_answer words) answer answer' p.0.answer_is q.0.answer_is,
   pinned_plain (first_number (start_answer words)) r r' p.1 q.1,
 )
 
@@ -201,8 +201,8 @@ pub lawqendo_release_pinned : (before : List ℕ) (task time : ℕ) (image image
     ReleaseLeaves before task time image' answer' × (r' ≡ first_number (release_answer before task time)) →
     (image ≡ image') × (answer ≡ answer') × (r ≡ r')
 lawqendo_release_pinned before task time image image' answer answer' r r' p q = (
-  pinned_plain (release_image before task time) image image' p.0.image-is q.0.image-is,
-  pinned_plain (release_answer before task time) answer answer' p.0.answer-is q.0.answer-is,
+  pinned_plain (release_image before task time) image image' p.0.image_is q.0.image_is,
+  pinned_plain (release_answer before task time) answer answer' p.0.answer_is q.0.answer_is,
   pinned_plain (first_number (release_answer before task time)) r r' p.1 q.1,
 )
 
@@ -211,8 +211,8 @@ pub lawqendo_step_pinned : (before : List ℕ) (time : ℕ) (image image' answer
     StepLeaves before time image' answer' × (r' ≡ first_number (step_answer before time)) →
     (image ≡ image') × (answer ≡ answer') × (r ≡ r')
 lawqendo_step_pinned before time image image' answer answer' r r' p q = (
-  pinned_plain (step_image before time) image image' p.0.image-is q.0.image-is,
-  pinned_plain (step_answer before time) answer answer' p.0.answer-is q.0.answer-is,
+  pinned_plain (step_image before time) image image' p.0.image_is q.0.image_is,
+  pinned_plain (step_answer before time) answer answer' p.0.answer_is q.0.answer_is,
   pinned_plain (first_number (step_answer before time)) r r' p.1 q.1,
 )
 

@@ -1,5 +1,7 @@
 // A player of scripts: what is kept between the lines of a script, the answer to one line, and the whole from standard input to standard output.
 // The programs `chair` and `cases` are calls of `run::play`.
+#![tactic(auto)]
+
 use crate::limits::WORDS;
 use dispatch::State;
 
@@ -9,7 +11,7 @@ pub mod run;
 pub mod show;
 
 // What is kept between lines: the words that the last table lent, and how many; the dispatcher's state; and how many lines there were.
-#[derive(Drop)]
+#[derive(Clone, Copy)]
 pub struct Session {
     pub words: [u32; WORDS],
     pub length: usize,
@@ -18,7 +20,7 @@ pub struct Session {
 }
 
 // The session after a line, and how many bytes its answer has.
-#[derive(Drop)]
+#[derive(Clone, Copy)]
 pub struct Answered {
     pub session: Session,
     pub bytes: usize,

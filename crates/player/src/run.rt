@@ -7,7 +7,7 @@ use crate::answer::{answer, session};
 use crate::limits::{LINE, MOST_ANSWER, PIECE};
 
 // What is kept between the pieces: the session, how many bytes of a line have come, and how many bytes are to be written out.
-#[derive(Drop)]
+#[derive(Clone, Copy)]
 pub struct Feed {
     pub session: Session,
     pub length: usize,
@@ -15,7 +15,7 @@ pub struct Feed {
 }
 
 // What one read brings, and whether there may be more.
-#[derive(Drop)]
+#[derive(Clone, Copy)]
 pub struct Came {
     pub feed: Feed,
     pub more: bool,

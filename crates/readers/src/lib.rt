@@ -2,6 +2,8 @@
 // floor. Every reader answers for every list of words, every map, every task number and place: what it reads is the table `table_at` of
 // specs/Map.antt. A word that isn't there is 0, a task that isn't there has zeros and no steps, and no plan is read past the most steps that it may have.
 // A task's start is looked up once in each reader and handed on.
+#![tactic(auto)]
+
 ghost use Rattle.std.specs.Prelude.{◌+◌, ◌≤◌, ◌<◌, min, ◌≡◌, cond, [], ltb, length, get_or};
 ghost use Rattle.table.specs.Limits.{most_tasks, most_steps, at_plan};
 ghost use Rattle.table.specs.Table.{task_of};

@@ -130,7 +130,7 @@ module _ {table : Table} (valid : Valid table) {kept : Kept} (shape : Shape tabl
 
   new_stored : Stored (new_job (time + (task_of table i).D) kept.count time)
   new_stored =
-      let deadline : time + (task_of table i).D ≤ most_stored = omega (arith, free.timely.end, task.D-most) in
+      let deadline : time + (task_of table i).D ≤ most_stored = omega (arith, free.timely.end, task.D_most) in
       record { base = deadline; active = deadline; saved = λ k. rw (zeros k) zero-le; last = omega (arith, free.timely.end) }
 
   new_going : Going table time (kept.count + 1) i (new_job (time + (task_of table i).D) kept.count time)
@@ -148,7 +148,7 @@ module _ {table : Table} (valid : Valid table) {kept : Kept} (shape : Shape tabl
       go : (b : Bool) → has kept.had i ≡ b → weight b (row_of kept i).last < time + 1
       go true e =
           let far : ltb time ((row_of kept i).last + (task_of table i).T) ≡ false = rw e at free.apart in
-          omega (arith, ltb-false time ((row_of kept i).last + (task_of table i).T) far, task.T-least)
+          omega (arith, ltb-false time ((row_of kept i).last + (task_of table i).T) far, task.T_least)
       go false e = omega arith
 
   potential_raised : potential kept < potential (released table kept i time)

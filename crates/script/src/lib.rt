@@ -1,11 +1,13 @@
 // The script of docs/SCRIPT.md as it is read: one line of bytes to a command or to what is wrong with it. Every public call answers for every line and
 // every room. Answers are written by the crate `lines`.
+#![tactic(auto)]
+
 use text::Fault;
 
 pub mod read;
 
 // What a line says. A table says how many words it lends; `read::table_words` hands them out.
-#[derive(Drop)]
+#[derive(Clone, Copy)]
 pub enum Command {
     Nothing,
     Table(usize),
@@ -19,7 +21,7 @@ pub enum Command {
 }
 
 // Which command a line's first word is.
-#[derive(Drop)]
+#[derive(Clone, Copy)]
 pub enum Keyword {
     Table,
     Check,
@@ -32,28 +34,28 @@ pub enum Keyword {
 }
 
 // A word as a number.
-#[derive(Drop)]
+#[derive(Clone, Copy)]
 pub enum Number {
     Value(u64),
     Amiss(Fault),
 }
 
 // A word of a line, from a place up to another; none where the two are the same.
-#[derive(Drop)]
+#[derive(Clone, Copy)]
 pub struct Span {
     pub from: usize,
     pub to: usize,
 }
 
 // What stands at the front of a line's rest: a number with the place behind it, or what is wrong.
-#[derive(Drop)]
+#[derive(Clone, Copy)]
 pub enum Front {
     Got(u64, usize),
     Bad(Fault),
 }
 
 // What stands at the front of a table's rest: nothing, a `/` or a word with the place behind it, or what is wrong.
-#[derive(Drop)]
+#[derive(Clone, Copy)]
 pub enum Entry {
     End,
     Slash(usize),

@@ -4,8 +4,6 @@
 use Prim.Native.Nat.{ℕ}
 use mathlib.Core.Path.{◌≡◌, refl, ap, subst}
 use mathlib.Core.List.{List, [], ◌∷◌}
-use denote.Enum.Declared
-use types.Run.{OneOf, miss}
 use Rattle.numbers.specs.Answers.{SHORT, COUNT, RANGE, STEP, NEST, CROWDED}
 use Rattle.numbers.proofs.Tests.{never}
 use Rattle.table.specs.Said.{passes, says, said_of, Surveyed, survey_said, survey_of, check_said}
@@ -13,14 +11,6 @@ use Rattle.table.specs.Map.{map_of}
 use Rattle.table.specs.declared.Finding.{Finding}
 use Rattle.table.specs.declared.Finding.TheVariants.{Sound, Short, Count, Range, Step, Nest, Crowded}
 use Rattle.table.specs.declared.Survey.{Survey}
-use Rattle.table.specs.contracts.Finding as finding
-
--- Of the cases, the code's test tells the first from the others.
-abbrev pub others : List ℕ
-others = 1 ∷ 2 ∷ 3 ∷ 4 ∷ 5 ∷ 6 ∷ []
-
-pub not_sound_lem : (found : Finding) → OneOf others (Declared.tag_of finding.the_type found) → found ≡ Sound → ⊥
-not_sound_lem found told e = miss others 0 tt (subst (λ (f : Finding). OneOf others (Declared.tag_of finding.the_type f)) e told)
 
 pub record Refusal (found : Finding) : Type 0 where
   pub number : ℕ

@@ -26,6 +26,7 @@ least_le : {x : ℕ} {xs : List ℕ} → Among x xs → least xs ≤ x
 unfolding least
 least_le (first {xs = []}) = omega arith
 least_le (first {xs = y ∷ xs}) = omega arith
+least_le {x = x} (later {y = y} {xs = []} a) = elim a [ ]
 least_le {x} (later {y = y} {xs = z ∷ xs} a) =
     let below : least (z ∷ xs) ≤ x = least_le a in
     omega arith

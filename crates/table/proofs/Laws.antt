@@ -177,8 +177,8 @@ pub valid_checked : (t : Table) → Valid t → check_of (words_of t) ≡ sound 
 unfolding check_of words_of
 valid_checked t v =
     end_sound ws t
-    (then_written (after_n ws) (word_written COUNT 1 most_tasks ws 0 refl v.tasks-least v.tasks_most)
-    (λ at₁ e₁. then_written (after_m ws (tasks_of t)) (word_written COUNT 0 most_resources ws at₁ e₁ zero-le v.resources-most)
+    (then_written (after_n ws) (word_written COUNT 1 most_tasks ws 0 refl v.tasks_least v.tasks_most)
+    (λ at₁ e₁. then_written (after_m ws (tasks_of t)) (word_written COUNT 0 most_resources ws at₁ e₁ zero-le v.resources_most)
     (λ at₂ e₂. then_written (after_tasks t.resources)
     (tasks_written t.resources t.tasks ws at₂ v.each (e₂ ∙ sym (append-nil (tasks_words t.tasks))))
     (λ end e₃. done t ws end e₃))))

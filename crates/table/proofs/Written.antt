@@ -158,9 +158,9 @@ pub task_written : (m : ℕ) (task : Task) (ws : List ℕ) (at : ℕ) {rest : Li
     Written (task_in m ws at) task ws rest
 unfolding task_in task_words
 task_written m task ws at v e =
-    then_written (after_t m ws) (word_written RANGE 1 most_ticks ws at e v.T-least v.T-most)
-    (λ at₁ e₁. then_written (after_d m ws task.T) (word_written RANGE 1 most_ticks ws at₁ e₁ v.D-least v.D-most)
-    (λ at₂ e₂. then_written (after_c m ws task.T task.D) (word_written RANGE 1 most_ticks ws at₂ e₂ v.C-least v.C-most)
+    then_written (after_t m ws) (word_written RANGE 1 most_ticks ws at e v.T_least v.T_most)
+    (λ at₁ e₁. then_written (after_d m ws task.T) (word_written RANGE 1 most_ticks ws at₁ e₁ v.D_least v.D_most)
+    (λ at₂ e₂. then_written (after_c m ws task.T task.D) (word_written RANGE 1 most_ticks ws at₂ e₂ v.C_least v.C_most)
     (λ at₃ e₃. then_written (after_s m ws task.T task.D task.C) (word_written COUNT 0 most_steps ws at₃ e₃ zero-le v.steps)
     (λ at₄ e₄. then_written (after_plan task.T task.D task.C) (plan_written v.nested v.fitting (balanced_first task.C) ws at₄ e₄)
     (λ end e₅. done task ws end e₅)))))

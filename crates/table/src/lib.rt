@@ -1,4 +1,6 @@
 // Document 01's tables: their limits, the check of a list of words, and the map by which the readers (crate `readers`) find their words.
+#![tactic(auto)]
+
 pub mod check;
 pub mod limits;
 mod sections;
@@ -13,7 +15,7 @@ use limits::TASKS;
 use numbers::answers::{COUNT, CROWDED, NEST, RANGE, SHORT, STEP};
 
 // What the check finds: sound, or the refusal that document 01 or request 105 names, with its place (a word index).
-#[derive(Drop)]
+#[derive(Clone, Copy)]
 pub enum Finding {
     Sound,
     Short(usize),
@@ -57,7 +59,7 @@ impl Finding {
 }
 
 // Where each task of a sound list starts, so that one pass over the words serves many reads.
-#[derive(Drop)]
+#[derive(Clone, Copy)]
 pub struct Map {
     pub tasks: u32,
     pub resources: u32,
@@ -65,14 +67,14 @@ pub struct Map {
 }
 
 // What one pass over the words learns.
-#[derive(Drop)]
+#[derive(Clone, Copy)]
 pub struct Survey {
     pub finding: Finding,
     pub map: Map,
 }
 
 // One step of a plan, or that the plan has no such step.
-#[derive(Drop)]
+#[derive(Clone, Copy)]
 pub enum Next {
     Lock(u32, u32),
     Unlock,

@@ -13,7 +13,7 @@ use crate::limits::{LEVELS, MOST_HELD};
 // The sections, the innermost first, and their resources as a set; and for every open level, one more than sections, what the sections opened in
 // it have left of its room. A lock shifts the three arrays by one place and an unlock shifts them back, so that every index is a constant: a store
 // at an index known only when it runs, before the whole array is read, makes each step wait for memory.
-#[derive(Drop)]
+#[derive(Clone, Copy)]
 pub(crate) struct Sections {
     pub(crate) set: u32,
     pub(crate) depth: usize,

@@ -70,7 +70,7 @@ fn taken(sections: Sections, kind: u32, resource: u32, length: u32) -> Sections
 }
 
 // One step as it was judged: where it leaves the plan, if it is sound.
-#[derive(Drop)]
+#[derive(Clone, Copy)]
 pub(crate) struct Stepped {
     pub(crate) finding: Finding,
     pub(crate) sections: Sections,

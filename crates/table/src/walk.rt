@@ -10,7 +10,7 @@ use crate::steps::read_step;
 use crate::words::read_head;
 
 // All tasks as they were judged: where they end, where they are sound, and where each starts.
-#[derive(Drop)]
+#[derive(Clone, Copy)]
 pub(crate) struct Walked {
     pub(crate) finding: Finding,
     pub(crate) end: usize,

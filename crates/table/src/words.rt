@@ -8,7 +8,7 @@ use crate::Finding;
 use crate::limits::{AT_COST, AT_DEADLINE, AT_PERIOD, AT_STEPS, MOST_STEPS, MOST_TICKS};
 
 // One word as it was judged: its value where it is sound.
-#[derive(Drop)]
+#[derive(Clone, Copy)]
 pub(crate) struct Word {
     pub(crate) finding: Finding,
     pub(crate) value: u32,
@@ -51,7 +51,7 @@ fn read_ticks(words: &[u32], at: usize) -> Word
 }
 
 // A task's first words as they were judged: its C and s where they are sound.
-#[derive(Drop)]
+#[derive(Clone, Copy)]
 pub(crate) struct Head {
     pub(crate) finding: Finding,
     pub(crate) cost: u32,

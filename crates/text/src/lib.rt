@@ -1,8 +1,9 @@
 // What reading a script and answering it both speak of: what may be wrong with a line. The definitions of texts are in specs/: bytes, decimal numbers, and
 // what it is to write a text into a lent room.
+#![tactic(auto)]
 
 // What is wrong with a line that is no command.
-#[derive(Drop)]
+#[derive(Clone, Copy)]
 pub enum Fault {
     Unknown,
     Missing,

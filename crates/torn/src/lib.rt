@@ -1,4 +1,6 @@
 // TORN (document 01, "When an event is turned away"): "the state's own ranges fail". The test walks the table once, and hands on what the walk learns.
+#![tactic(auto)]
+
 mod released; // released.rt: the release numbers
 mod stored; // stored.rt: the stored times
 
@@ -16,7 +18,7 @@ use table::limits::{END_OF_TIME, MOST_RELEASES, ROOM};
 use table::{Finding, Map};
 
 // What the test learns: whether the state is torn, and where its tasks start.
-#[derive(Drop)]
+#[derive(Clone, Copy)]
 pub struct Tested {
     pub torn: bool,
     pub map: Map,

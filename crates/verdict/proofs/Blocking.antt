@@ -161,7 +161,7 @@ tasks_most table t m (task ∷ tasks) h =
     rw (tasks_cons table t task tasks) (max-le (one (ltb t task.D)) (tasks_most table t m tasks h.1))
   where
     one : (b : Bool) → cond b (blocking_plan table t task.plan) 0 ≤ most_ticks
-    one true = le_trans (plan_most table t h.0.nested) h.0.C-most
+    one true = le_trans (plan_most table t h.0.nested) h.0.C_most
     one false = zero-le
 
 pub blocking_most : (table : Table) (t : ℕ) → Each (ValidTask table.resources) table.tasks → blocking table t ≤ most_ticks

@@ -71,7 +71,7 @@ demand_most m task t v = go (leb task.D t) refl
     go false e = rw (demand_early task t (leb-false task.D t e)) zero-le
     go true e =
         rw (demand_due task t (leb-true task.D t e))
-        (mul-le-mul v.C-most (omega (arith, div-le_self (t - task.D) task.T)))
+        (mul-le-mul v.C_most (omega (arith, div-le_self (t - task.D) task.T)))
 
 -- ---- the sum
 
@@ -99,7 +99,7 @@ largest_cons task tasks = refl
 pub largest_most : (m : ℕ) (tasks : List Task) → Each (ValidTask m) tasks → largest tasks ≤ most_ticks
 unfolding largest
 largest_most m [] h = zero-le
-largest_most m (task ∷ tasks) h = max-le h.0.D-most (largest_most m tasks h.1)
+largest_most m (task ∷ tasks) h = max-le h.0.D_most (largest_most m tasks h.1)
 
 -- it never falls
 pub sum_rises : (tasks : List Task) (s t : ℕ) → s ≤ t → demand_sum tasks s ≤ demand_sum tasks t

@@ -31,4 +31,4 @@ pub valid_each : (table : Table) → Valid table → Each (ValidTask table.resou
 valid_each table v = each_all (ValidTask table.resources) table.tasks v.each
 
 pub valid_periods : (table : Table) → Valid table → Periods table.tasks
-valid_periods table v = each_all (λ (task : Task). 1 ≤ task.T) table.tasks (λ i l. (v.each i l).T-least)
+valid_periods table v = each_all (λ (task : Task). 1 ≤ task.T) table.tasks (λ i l. (v.each i l).T_least)

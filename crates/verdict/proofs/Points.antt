@@ -121,7 +121,7 @@ quiet_falls table t h =
 pub keeps_start : (table : Table) → Valid table → Keeps table 0
 keeps_start table v =
     let some : Each (λ (task : Task). zero < task.D) table.tasks =
-    each_all (λ (task : Task). zero < task.D) table.tasks (λ i l. (v.each i l).D-least)
+    each_all (λ (task : Task). zero < task.D) table.tasks (λ i l. (v.each i l).D_least)
     in
     let d : demand table 0 ≡ 0 = sum_early table.tasks 0 some in
     let b : blocking table 0 ≡ 0 = blocking_early table 0 (floors_of table (λ (d : ℕ). zero < d) some) in

@@ -1,4 +1,6 @@
 // The timing verdict of document 01, "The verdict": whether demand plus blocking stays within every length t of time, without end.
+#![tactic(auto)]
+
 ghost use Rattle.std.specs.Prelude.{◌≡◌};
 ghost use Rattle.verdict.specs.Verdict.{number_in, value_in};
 ghost use Rattle.verdict.specs.Said.{verdict_said};
@@ -13,7 +15,7 @@ mod times;
 mod work;
 
 // What is said of a table: refused as the check refuses it, or one of document 01's four answers.
-#[derive(Drop)]
+#[derive(Clone, Copy)]
 pub enum Verdict {
     Refused(Finding),
     Fits,

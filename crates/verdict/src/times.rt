@@ -6,7 +6,7 @@ use table::Map;
 use table::limits::TASKS;
 
 // Place i of each has T, D, C of task i.
-#[derive(Drop)]
+#[derive(Clone, Copy)]
 pub(crate) struct Times {
     pub(crate) periods: [u64; TASKS],
     pub(crate) deadlines: [u64; TASKS],

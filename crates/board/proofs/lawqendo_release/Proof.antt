@@ -13,7 +13,7 @@ array-read-result : tie.Need-array-read-result
 array-read-result c = search rules
 
 returns : tie.Need-returns
-returns c = (c.release.ensures, ap first_number c.release.ensures.answer-is)
+returns c = (c.release.ensures, ap first_number c.release.ensures.answer_is)
 
 pub lawqendo-release-spec : {M : Type 1} → statement M
 lawqendo-release-spec = tie.close (tie.spec release-requires array-read-result returns)

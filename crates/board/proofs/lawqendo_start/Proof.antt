@@ -13,7 +13,7 @@ array-read-result : tie.Need-array-read-result
 array-read-result c = search rules
 
 returns : tie.Need-returns
-returns c = (c.start.ensures, ap first_number c.start.ensures.answer-is)
+returns c = (c.start.ensures, ap first_number c.start.ensures.answer_is)
 
 pub lawqendo-start-spec : {M : Type 1} → statement M
 lawqendo-start-spec = tie.close (tie.spec start-requires array-read-result returns)

@@ -13,7 +13,7 @@ array-read-result : tie.Need-array-read-result
 array-read-result c = search rules
 
 returns : tie.Need-returns
-returns c = (c.step.ensures, ap first_number c.step.ensures.answer-is)
+returns c = (c.step.ensures, ap first_number c.step.ensures.answer_is)
 
 pub lawqendo-step-spec : {M : Type 1} → statement M
 lawqendo-step-spec = tie.close (tie.spec step-requires array-read-result returns)

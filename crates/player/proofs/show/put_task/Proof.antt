@@ -22,7 +22,7 @@ same_length c = search rules
 
 returns : tie.Need-returns
 unfolding task_text
-returns c = rw (sym c.before.before.before.before.before.before.before.has.ensures ∙ c.before.before.before.before.before.before.if1.true) c.before.before.put-row.ensures
+returns c = rw (sym c.before.before.before.before.before.before.before.has.ensures ∙ c.before.before.before.before.before.before.if1.true) c.before.before.put_row.ensures
 
 returns-2 : tie.Need-returns-2
 unfolding task_text

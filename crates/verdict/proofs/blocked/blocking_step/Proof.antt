@@ -24,7 +24,7 @@ use Rattle.verdict.proofs.blocked.blocking_step.Tie as tie
 module _ (table : Table) (floors : List ℕ) (task place t : ℕ) (v : Valid table) (all : AreFloors table floors) (below : task < tasks_of table)
     {next : Next} (said : next ≡ next_of (task_of table task).plan place) where
   there : {r l : ℕ} → next ≡ Lock r l → r < most_resources
-  there e = lt_of_lt_of_le (lock_below (v.each task below).nested place (sym said ∙ e)) v.resources-most
+  there e = lt_of_lt_of_le (lock_below (v.each task below).nested place (sym said ∙ e)) v.resources_most
 
   step_is : {r l : ℕ} → next ≡ Lock r l → get_or (task_of table task).plan place unlock ≡ lock r l
   step_is e = lock_step (task_of table task).plan place (sym said ∙ e)

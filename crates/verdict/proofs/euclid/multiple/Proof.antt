@@ -43,10 +43,10 @@ module _ (table : Table) (periods : List ℕ) (v : Valid table) (are : ArePeriod
   some_divisor : {g : ℕ} → g ≡ divisor_of p (get_or periods i 0) → zero < g
   some_divisor e =
       subst (λ (x : ℕ). zero < x) (sym e)
-      (divisor_pos p (get_or periods i 0) (subst (λ (x : ℕ). zero < x) (sym (are i below)) here.T-least))
+      (divisor_pos p (get_or periods i 0) (subst (λ (x : ℕ). zero < x) (sym (are i below)) here.T_least))
 
   small : (g : ℕ) → p / g * get_or periods i 0 ≤ most_multiple * most_ticks
-  small g = mul-le-mul (le_trans (div-le_self p g) h.most) (subst (λ (x : ℕ). x ≤ most_ticks) (sym (are i below)) here.T-most)
+  small g = mul-le-mul (le_trans (div-le_self p g) h.most) (subst (λ (x : ℕ). x ≤ most_ticks) (sym (are i below)) here.T_most)
 
   goes_on : {next : ℕ} → next ≡ multiple_of p (task_of table i).T → multiple_with next (rest table (i + 1)) ≡ multiple table
   goes_on e =
@@ -66,7 +66,7 @@ module _ (table : Table) (periods : List ℕ) (v : Valid table) (are : ArePeriod
   again {g} e m = record {
     count = h.count;
     within = omega arith;
-    least = subst (λ (x : ℕ). 1 ≤ x) (sym (next_is e)) (multiple_pos p (task_of table i).T h.least here.T-least);
+    least = subst (λ (x : ℕ). 1 ≤ x) (sym (next_is e)) (multiple_pos p (task_of table i).T h.least here.T_least);
     most = m;
     goes = goes_on (next_is e);
   }

@@ -46,7 +46,7 @@ demand-requires c κs =
 blocking-requires : tie.Need-blocking-requires
 blocking-requires c κs =
     let s = c.before.before.before.before in
-    (s.requires.0, s.requires.1.0.are-deadlines)
+    (s.requires.0, s.requires.1.0.are_deadlines)
 
 add-result : tie.Need-overflow-add-result
 add-result c =

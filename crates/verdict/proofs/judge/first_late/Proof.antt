@@ -78,14 +78,14 @@ largest-requires : tie.Need-largest-requires invariant-loop decreases-loop
 largest-requires c κs =
     let s = c.before.before in
     let count = c.tasks.ensures ∙ sym (tasks_at_lem s.args.words.now s.args.map) in
-    record { table = table_at s.args.words.now s.args.map; valid = s.requires.0.0; count = count; so = s.requires.1.0.are-deadlines }
+    record { table = table_at s.args.words.now s.args.map; valid = s.requires.0.0; count = count; so = s.requires.1.0.are_deadlines }
 
 add-end : tie.Need-overflow-add-end invariant-loop decreases-loop
 add-end c =
     let s = c.before.before.before in
     let table = table_at s.args.words.now s.args.map in
     let count = c.before.tasks.ensures ∙ sym (tasks_at_lem s.args.words.now s.args.map) in
-    let last = c.largest.ensures table s.requires.0.0 count s.requires.1.0.are-deadlines in
+    let last = c.largest.ensures table s.requires.0.0 count s.requires.1.0.are_deadlines in
     omega (arith, near table s.requires.0.0 s.requires.1.1 last)
 
 loop-holds : tie.Need-loop-init invariant-loop decreases-loop
@@ -101,7 +101,7 @@ demand-and-blocking-requires c κs =
     let s = c.before.before.before.before.before in
     let table = table_at s.args.words.now s.args.map in
     let count = c.before.before.before.tasks.ensures ∙ sym (tasks_at_lem s.args.words.now s.args.map) in
-    let last = c.before.before.largest.ensures table s.requires.0.0 count s.requires.1.0.are-deadlines in
+    let last = c.before.before.largest.ensures table s.requires.0.0 count s.requires.1.0.are_deadlines in
     (s.requires.0, (s.requires.1.0, (last, omega (arith, c.loop-test.true, near table s.requires.0.0 s.requires.1.1 last))))
 
 returns : tie.Need-returns invariant-loop decreases-loop
@@ -109,7 +109,7 @@ returns c =
     let s = c.before.before.before.before.before.before.before in
     let table = table_at s.args.words.now s.args.map in
     let count = c.before.before.before.before.before.tasks.ensures ∙ sym (tasks_at_lem s.args.words.now s.args.map) in
-    let last = c.before.before.before.before.largest.ensures table s.requires.0.0 count s.requires.1.0.are-deadlines in
+    let last = c.before.before.before.before.largest.ensures table s.requires.0.0 count s.requires.1.0.are_deadlines in
     whole table s.args.p last
     (breaks _ _ _ c.before.before.before.loop.invariant (omega (arith, c.before.before.loop-test.true)) c.before.demand-and-blocking.ensures c.if1.true)
 
@@ -118,7 +118,7 @@ add-t c =
     let s = c.before.before.before.before.before.before.before.before in
     let table = table_at s.args.words.now s.args.map in
     let count = c.before.before.before.before.before.before.tasks.ensures ∙ sym (tasks_at_lem s.args.words.now s.args.map) in
-    let last = c.before.before.before.before.before.largest.ensures table s.requires.0.0 count s.requires.1.0.are-deadlines in
+    let last = c.before.before.before.before.before.largest.ensures table s.requires.0.0 count s.requires.1.0.are_deadlines in
     omega (arith, c.before.before.before.loop-test.true, near table s.requires.0.0 s.requires.1.1 last)
 
 loop-less : tie.Need-loop-smaller invariant-loop decreases-loop
@@ -133,7 +133,7 @@ returns-2 c =
     let s = c.before.before.before.before.before in
     let table = table_at s.args.words.now s.args.map in
     let count = c.before.before.before.tasks.ensures ∙ sym (tasks_at_lem s.args.words.now s.args.map) in
-    let last = c.before.before.largest.ensures table s.requires.0.0 count s.requires.1.0.are-deadlines in
+    let last = c.before.before.largest.ensures table s.requires.0.0 count s.requires.1.0.are_deadlines in
     whole table s.args.p last (ended _ _ _ c.before.loop.invariant c.loop-test.false)
 
 returns-3 : tie.Need-returns-3 invariant-loop decreases-loop
@@ -141,7 +141,7 @@ returns-3 c =
     let s = c.before.before.before.before.before.before.before.before in
     let table = table_at s.args.words.now s.args.map in
     let count = c.before.before.before.before.before.before.tasks.ensures ∙ sym (tasks_at_lem s.args.words.now s.args.map) in
-    let last = c.before.before.before.before.before.largest.ensures table s.requires.0.0 count s.requires.1.0.are-deadlines in
+    let last = c.before.before.before.before.before.largest.ensures table s.requires.0.0 count s.requires.1.0.are_deadlines in
     let kept = keeps _ _ _ c.before.before.before.before.loop.invariant (omega (arith, c.before.before.before.loop-test.true)) c.before.before.demand-and-blocking.ensures c.before.if1.false in
     whole table s.args.p last (ended _ _ _ kept (omega (arith, c.if2.false)))
 

@@ -47,7 +47,7 @@ multiple-requires c κs =
     let table = table_at s.args.words.now s.args.map in
     let count = c.before.tasks.ensures ∙ sym (tasks_at_lem s.args.words.now s.args.map) in
     let times = c.before.before.before.before.before.gather.ensures in
-    record { table = table; valid = s.requires; count = count; so = times.are-periods }
+    record { table = table; valid = s.requires; count = count; so = times.are_periods }
 
 returns : tie.Need-returns
 returns c =
@@ -55,7 +55,7 @@ returns c =
     let table = table_at s.args.words.now s.args.map in
     let count = c.before.before.before.tasks.ensures ∙ sym (tasks_at_lem s.args.words.now s.args.map) in
     let times = c.before.before.before.before.before.before.before.gather.ensures in
-    let p-is = c.before.multiple.ensures table s.requires count times.are-periods in
+    let p-is = c.before.multiple.ensures table s.requires count times.are_periods in
     long table p-is c.if1.true
 
 load-requires : tie.Need-load-requires
@@ -64,7 +64,7 @@ load-requires c κs =
     let table = table_at s.args.words.now s.args.map in
     let count = c.before.before.before.before.before.tasks.ensures ∙ sym (tasks_at_lem s.args.words.now s.args.map) in
     let times = c.before.before.before.before.before.before.before.before.before.gather.ensures in
-    (record { table = table; valid = s.requires; count = count; so = (times.are-periods, times.are-costs) }, c.before.before.if1.false)
+    (record { table = table; valid = s.requires; count = count; so = (times.are_periods, times.are_costs) }, c.before.before.if1.false)
 
 returns-2 : tie.Need-returns-2
 returns-2 c =
@@ -72,8 +72,8 @@ returns-2 c =
     let table = table_at s.args.words.now s.args.map in
     let count = c.before.before.before.before.before.before.before.tasks.ensures ∙ sym (tasks_at_lem s.args.words.now s.args.map) in
     let times = c.before.before.before.before.before.before.before.before.before.before.before.gather.ensures in
-    let p-is = c.before.before.before.before.before.multiple.ensures table s.requires count times.are-periods in
-    let loaded = c.before.load.ensures table s.requires count (times.are-periods, times.are-costs) in
+    let p-is = c.before.before.before.before.before.multiple.ensures table s.requires count times.are_periods in
+    let loaded = c.before.load.ensures table s.requires count (times.are_periods, times.are_costs) in
     heavy table p-is c.before.before.before.before.if1.false loaded c.if2.true
 
 floors-requires : tie.Need-floors-requires
@@ -90,8 +90,8 @@ returns-3 c =
     let table = table_at s.args.words.now s.args.map in
     let count = c.before.before.before.before.before.before.before.before.before.before.before.before.before.tasks.ensures ∙ sym (tasks_at_lem s.args.words.now s.args.map) in
     let times = c.before.before.before.before.before.before.before.before.before.before.before.before.before.before.before.before.before.gather.ensures in
-    let p-is = c.before.before.before.before.before.before.before.before.before.before.before.multiple.ensures table s.requires count times.are-periods in
-    let loaded = c.before.before.before.before.before.before.before.load.ensures table s.requires count (times.are-periods, times.are-costs) in
+    let p-is = c.before.before.before.before.before.before.before.before.before.before.before.multiple.ensures table s.requires count times.are_periods in
+    let loaded = c.before.before.before.before.before.before.before.load.ensures table s.requires count (times.are_periods, times.are_costs) in
     light table p-is c.before.before.before.before.before.before.before.before.before.before.if1.false loaded c.before.before.before.before.before.before.if2.false c.first-late.ensures
 
 pub judge-spec : {M : Type 1} → statement M

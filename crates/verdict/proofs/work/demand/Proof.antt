@@ -40,13 +40,13 @@ module _ (table : Table) (periods deadlines costs : List ℕ) (t n sum i : ℕ) 
   here = v.each i below
 
   least : 1 ≤ get_or periods i 0
-  least = subst (λ (x : ℕ). 1 ≤ x) (sym (are.are-periods i below)) here.T-least
+  least = subst (λ (x : ℕ). 1 ≤ x) (sym (are.are_periods i below)) here.T_least
 
   most : get_or costs i 0 ≤ most_ticks
-  most = subst (λ (x : ℕ). x ≤ most_ticks) (sym (are.are-costs i below)) here.C-most
+  most = subst (λ (x : ℕ). x ≤ most_ticks) (sym (are.are_costs i below)) here.C_most
 
   part_is : {part : ℕ} → part ≡ demand_of (timed (get_or periods i 0) (get_or deadlines i 0) (get_or costs i 0)) t → part ≡ demand_of (task_of table i) t
-  part_is e = e ∙ same-demand (task_of table i) t (are.are-periods i below) (are.are-deadlines i below) (are.are-costs i below)
+  part_is e = e ∙ same-demand (task_of table i) t (are.are_periods i below) (are.are_deadlines i below) (are.are_costs i below)
 
   part_most : {part : ℕ} → part ≡ demand_of (timed (get_or periods i 0) (get_or deadlines i 0) (get_or costs i 0)) t → part ≤ mostDemand
   part_most e =

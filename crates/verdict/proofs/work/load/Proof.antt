@@ -34,10 +34,10 @@ module _ (table : Table) (periods costs : List ℕ) (p n sum i : ℕ) (v : Valid
   here = v.each i below
 
   product : get_or costs i 0 * p ≤ mostLoad
-  product = mul-le-mul (subst (λ (x : ℕ). x ≤ most_ticks) (sym (are.1 i below)) here.C-most) l
+  product = mul-le-mul (subst (λ (x : ℕ). x ≤ most_ticks) (sym (are.1 i below)) here.C_most) l
 
   some : zero < get_or periods i 0
-  some = subst (λ (x : ℕ). zero < x) (sym (are.0 i below)) here.T-least
+  some = subst (λ (x : ℕ). zero < x) (sym (are.0 i below)) here.T_least
 
   part : get_or costs i 0 * p / get_or periods i 0 ≤ mostLoad
   part = le_trans (div-le_self (get_or costs i 0 * p) (get_or periods i 0)) product
