@@ -4,7 +4,7 @@
 use Prim.Native.Nat.{ℕ, zero, suc, ◌+◌, ◌-◌, ◌*◌, ◌<◌, min}
 use mathlib.Core.Path.{◌≡◌, refl, sym, ap, ◌∙◌}
 use mathlib.Core.Bool.{Bool, true, false, ◌||◌}
-use mathlib.Core.List.{List, [], ◌∷◌, ◌++◌}
+use mathlib.Core.List.{List, [], ◌∷◌}
 use native.Mathlib.Nat.{suc-min-suc, zero-min, min-zero, not-suc-le-zero}
 use native.Mathlib.Numerals.{add-one}
 use native.Mathlib.Omega.{arith}
@@ -25,11 +25,11 @@ use Rattle.readers.proofs.Raw.{task_at_lem, step_by, step_by_lem}
 -- ---- one step more
 
 -- what the first n steps of the task that starts at a place hold
-abbrev pub held_at_lem : List ℕ → ℕ → ℕ → List Section
-held_at_lem ws at n = held_from [] (steps_at n ws (at + at_plan))
+abbrev pub held_at : List ℕ → ℕ → ℕ → List Section
+held_at ws at n = held_from [] (steps_at n ws (at + at_plan))
 
-held_by_lem : (ws : List ℕ) (at n : ℕ) → held_at_lem ws at (suc n) ≡ held_after (step_by ws at (at_plan + step_size * n)) (held_at_lem ws at n)
-held_by_lem ws at n = held_more ws (at + at_plan) n ∙ ap (λ (s : Step). held_after s (held_at_lem ws at n)) (step_by_lem ws at n)
+held_by_lem : (ws : List ℕ) (at n : ℕ) → held_at ws at (suc n) ≡ held_after (step_by ws at (at_plan + step_size * n)) (held_at ws at n)
+held_by_lem ws at n = held_more ws (at + at_plan) n ∙ ap (λ (s : Step). held_after s (held_at ws at n)) (step_by_lem ws at n)
 
 -- ---- the order in which members come to a set does not matter
 
@@ -80,26 +80,26 @@ drop_unlock : (n : ℕ) (held : List Section) → drop n (held_after unlock held
 drop_unlock n [] = drop_none n
 drop_unlock n (s ∷ held) = refl
 
-pub walk_start : (ws : List ℕ) (at n : ℕ) → held_on 0 (drop 0 (held_at_lem ws at n)) ≡ held_set (held_at_lem ws at n)
-walk_start ws at n = on_zero (held_at_lem ws at n)
+pub walk_start : (ws : List ℕ) (at n : ℕ) → held_on 0 (drop 0 (held_at ws at n)) ≡ held_set (held_at ws at n)
+walk_start ws at n = on_zero (held_at ws at n)
 
-pub walk_end : (ws : List ℕ) (at set closing : ℕ) → held_on set (drop closing (held_at_lem ws at 0)) ≡ set
+pub walk_end : (ws : List ℕ) (at set closing : ℕ) → held_on set (drop closing (held_at ws at 0)) ≡ set
 walk_end ws at set closing = rw (held_none ws (at + at_plan), drop_none {A = Section} closing) (on_none set)
 
 -- a lock that no unlock closes; one that the nearest unlock behind it closes; an unlock. The step is the last of the `left` steps.
 pub walk_lock : (ws : List ℕ) (at set closing left : ℕ) → 0 < left → closing ≡ 0 → get_or ws (at + (at_plan + step_size * (left - 1))) 0 ≡ 1
-    → held_on (with_of width set (get_or ws (at + (at_plan + step_size * (left - 1) + at_resource)) 0)) (drop closing (held_at_lem ws at (left - 1)))
-    ≡ held_on set (drop closing (held_at_lem ws at left))
+    → held_on (with_of width set (get_or ws (at + (at_plan + step_size * (left - 1) + at_resource)) 0)) (drop closing (held_at ws at (left - 1)))
+    ≡ held_on set (drop closing (held_at ws at left))
 walk_lock ws at set closing zero l z e = absurd (not-suc-le-zero l)
 walk_lock ws at set (suc closing) (suc n) l z e = absurd (omega arith)
 walk_lock ws at set zero (suc n) l z e =
     let m : suc n - 1 ≡ n = omega arith in
     let one : get_or ws (at + (at_plan + step_size * n)) 0 ≡ 1 = rw m at e in
     rw (m, held_by_lem ws at n, eq-eqb (get_or ws (at + (at_plan + step_size * n)) 0) 1 one)
-    (sym (on_more set (get_or ws (at + (at_plan + step_size * n + at_resource)) 0) (get_or ws (at + (at_plan + step_size * n + at_length)) 0) (held_at_lem ws at n)))
+    (sym (on_more set (get_or ws (at + (at_plan + step_size * n + at_resource)) 0) (get_or ws (at + (at_plan + step_size * n + at_length)) 0) (held_at ws at n)))
 
 pub walk_closed : (ws : List ℕ) (at set closing left : ℕ) → 0 < left → (closing ≡ 0 → ⊥) → get_or ws (at + (at_plan + step_size * (left - 1))) 0 ≡ 1
-    → held_on set (drop (closing - 1) (held_at_lem ws at (left - 1))) ≡ held_on set (drop closing (held_at_lem ws at left))
+    → held_on set (drop (closing - 1) (held_at ws at (left - 1))) ≡ held_on set (drop closing (held_at ws at left))
 walk_closed ws at set closing zero l z e = absurd (not-suc-le-zero l)
 walk_closed ws at set zero (suc n) l z e = absurd (z refl)
 walk_closed ws at set (suc closing) (suc n) l z e =
@@ -109,13 +109,13 @@ walk_closed ws at set (suc closing) (suc n) l z e =
     rw (m, d, held_by_lem ws at n, eq-eqb (get_or ws (at + (at_plan + step_size * n)) 0) 1 one)
 
 pub walk_unlock : (ws : List ℕ) (at set closing left : ℕ) → 0 < left → (get_or ws (at + (at_plan + step_size * (left - 1))) 0 ≡ 1 → ⊥)
-    → held_on set (drop (closing + 1) (held_at_lem ws at (left - 1))) ≡ held_on set (drop closing (held_at_lem ws at left))
+    → held_on set (drop (closing + 1) (held_at ws at (left - 1))) ≡ held_on set (drop closing (held_at ws at left))
 walk_unlock ws at set closing zero l e = absurd (not-suc-le-zero l)
 walk_unlock ws at set closing (suc n) l e =
     let m : suc n - 1 ≡ n = omega arith in
     let other : get_or ws (at + (at_plan + step_size * n)) 0 ≡ 1 → ⊥ = rw m at e in
     rw (m, add-one closing, held_by_lem ws at n, ne_eqb (get_or ws (at + (at_plan + step_size * n)) 0) 1 other)
-    (ap (held_on set) (sym (drop_unlock closing (held_at_lem ws at n))))
+    (ap (held_on set) (sym (drop_unlock closing (held_at ws at n))))
 
 -- ---- the first steps of a task's plan
 
@@ -125,14 +125,14 @@ steps_take zero n ws at = rw (zero-min n)
 steps_take (suc k) zero ws at = rw (min-zero (suc k))
 steps_take (suc k) (suc n) ws at = rw (suc-min-suc k n) (ap (λ (steps : List Step). step_at ws at ∷ steps) (steps_take k n ws (at + step_size)))
 
-plan_held : (ws : List ℕ) (at k : ℕ) → held_by (task_at ws at).plan k ≡ held_at_lem ws at (min k (length (task_at ws at).plan))
+plan_held : (ws : List ℕ) (at k : ℕ) → held_by (task_at ws at).plan k ≡ held_at ws at (min k (length (task_at ws at).plan))
 unfolding task_at
 plan_held ws at k =
     let n = min (get_or ws (at + at_steps) 0) most_steps in
-    ap (held_from []) (steps_take k n ws (at + at_plan)) ∙ ap (λ (m : ℕ). held_at_lem ws at (min k m)) (sym (steps_length n ws (at + at_plan)))
+    ap (held_from []) (steps_take k n ws (at + at_plan)) ∙ ap (λ (m : ℕ). held_at ws at (min k m)) (sym (steps_length n ws (at + at_plan)))
 
 pub held_at_lem : (ws : List ℕ) (map : Map) (i k : ℕ) → i < min map.tasks most_tasks
-    → held_by (task_of (table_at ws map) i).plan k ≡ held_at_lem ws (get_or map.starts i 0) (min k (length (task_of (table_at ws map) i).plan))
+    → held_by (task_of (table_at ws map) i).plan k ≡ held_at ws (get_or map.starts i 0) (min k (length (task_of (table_at ws map) i).plan))
 held_at_lem ws map i k l = rw (task_at_lem ws map i l) (plan_held ws (get_or map.starts i 0) k)
 
 -- no steps, nothing held

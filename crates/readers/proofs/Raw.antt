@@ -18,7 +18,7 @@ use Rattle.table.specs.Map.{steps_at, task_at, tasks_at, table_at, next_of}
 use Rattle.table.specs.declared.Map.{Map}
 use Rattle.table.proofs.Laid.{steps_length, step_at, step_at_lem}
 use Rattle.table.specs.declared.Next.{Next}
-use Rattle.table.specs.declared.Next.TheVariants.{Lock, Unlock, Finish}
+use Rattle.table.specs.declared.Next.TheVariants.{Lock, Unlock}
 
 -- ---- the tasks
 
