@@ -34,7 +34,7 @@ module _ (kept : Kept) (out : Outcome) where
   given_none none = refl
   given_none (more h rest) = rw h (given_none rest)
 
-  pub given_number : {grounds : List Ground} {number : ℕ} → Given number grounds → given grounds kept out ≡ turned_away kept number
+  pub given_number : {number : ℕ} {grounds : List Ground} → Given number grounds → given grounds kept out ≡ turned_away kept number
   unfolding given
   given_number (here e h) = rw (h, e)
   given_number (later h rest) = rw h (given_number rest)
@@ -95,7 +95,7 @@ module _ (grounds : List Ground) (kept : Kept) (out : Outcome) (ok : Accepted ou
 
 -- A fact for each row.
 -- What every row whose ground holds says of its number, the number that is given says.
-pub given_each : {grounds : List Ground} {number : ℕ} (P : ℕ → Type 0) → Given number grounds →
+pub given_each : {number : ℕ} {grounds : List Ground} (P : ℕ → Type 0) → Given number grounds →
     Each (λ ground. ground.applies ≡ true → P ground.number) grounds → P number
 given_each P (here e h) (first, rest) = subst P e (first h)
 given_each P (later h g) (first, rest) = given_each P g rest

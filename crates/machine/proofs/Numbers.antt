@@ -12,7 +12,6 @@ use Rattle.machine.specs.Order.{no_job, row_of}
 use Rattle.machine.specs.Fields.{with_clock, with_count, with_ready, with_had, with_row}
 use Rattle.machine.specs.Numbers.{clock_at, count_at, ready_at, had_at, rows_at, base_at, active_at, number_at, place_at, saved_at, last_at, row_size, row_at, most_numbers, job_in, jobs_in, used_in, kept_in, job_cells, row_cells, numbers_of}
 use Rattle.machine.specs.declared.Job.{Job}
-use Rattle.machine.specs.declared.Kept.{Kept}
 
 -- ---- a row where it lies
 
