@@ -1,22 +1,21 @@
 -- Every refusal of the check has its ground (`refused_breaks`). The idea: a reading that is refused was refused at its first part, or behind it; so a law
 -- for one word, one step, one plan, one task and the tasks, each from the one before. Assumes nothing.
-use Prim.Native.Nat.{ℕ, zero, suc, ◌+◌, ◌*◌, ◌≤◌, ◌<◌}
+use Prim.Native.Nat.{ℕ, zero, suc, ◌+◌, ◌<◌}
 use mathlib.Core.Path.{◌≡◌, refl, sym, ap, ap₂, subst, subst₂, ◌∙◌}
 use mathlib.Core.Bool.{Bool, true, false, cond, ◌&&◌}
-use mathlib.Core.List.{List, [], ◌∷◌, ◌++◌}
+use mathlib.Core.List.{List, [], ◌∷◌}
 use native.Mathlib.Omega.{arith}
 use lib.Dec.{ltb, leb}
-use lib.ListN.{length, get_or, take, drop}
+use lib.ListN.{length, get_or}
 use borrow.Author.Tests.{ltb-true, leb-true, leb-false}
 use Rattle.numbers.specs.Answers.{SHORT, COUNT, RANGE, STEP, NEST, CROWDED}
 use Rattle.numbers.proofs.Tests.{never}
 use Rattle.table.specs.Limits.{most_tasks, most_resources, most_ticks, most_steps, at_tasks, at_period, at_deadline, at_cost, at_steps, at_plan, step_size, at_resource, at_length}
 use Rattle.table.specs.Table.{Step, Task, Table}
-use Rattle.table.specs.Held.{Section, held_after, held_from}
+use Rattle.table.specs.Held.{Section, held_after}
 use Rattle.table.specs.Spare.{spare_after, crowded}
 use Rattle.table.specs.Claims.{Level, unclaimed, levels_after}
 use Rattle.table.specs.Check.{Read, got, bad, ◌and_then◌, word_in, broken_step, broken_nest, nothing_held, step_said, step_in, plan_in, task_in, tasks_in, table_read, sound, refused, ended, check_of}
-use Rattle.table.specs.Map.{steps_at, behind}
 use Rattle.table.specs.Broken as breaks
 use Rattle.table.specs.Broken.{Broken, Outside, task_start, step_start, n_in, m_in, cost_in, steps_in, held_before, levels_before}
 use Rattle.table.proofs.Passed.{word_got, step_got, task_got, after_plan, after_s, after_c, after_d, after_t}

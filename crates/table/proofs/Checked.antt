@@ -1,8 +1,7 @@
 -- What the check of a list comes to (`check_of`), from the ends of its readings, and with it what `check::survey` answers. Assumes nothing.
-use Prim.Native.Nat.{ℕ, zero, suc, ◌+◌, ◌≤◌, ◌<◌}
+use Prim.Native.Nat.{ℕ, zero, suc, ◌≤◌, ◌<◌}
 use mathlib.Core.Path.{◌≡◌, refl, sym, ap, ◌∙◌}
 use mathlib.Core.List.{List, [], ◌∷◌}
-use native.Mathlib.Omega.{arith}
 use lib.ListN.{length}
 use borrow.Author.Tests.{lt-ltb, le-ltb}
 use Rattle.numbers.specs.Answers.{SHORT, COUNT}
@@ -11,8 +10,8 @@ use Rattle.table.specs.Limits.{most_tasks, most_resources, at_tasks}
 use Rattle.table.specs.Table.{Task, Table}
 use Rattle.table.specs.Check.{Read, got, bad, ◌and_then◌, task_in, tasks_in, sound, refused, ended, check_of}
 use Rattle.table.specs.Map.{map_of}
-use Rattle.table.specs.Said.{says, passes, said_of, survey_said, survey_of}
-use Rattle.table.specs.Walk.{end_of, stopped_by, refused_of, WalkJudged}
+use Rattle.table.specs.Said.{says, said_of, survey_said, survey_of}
+use Rattle.table.specs.Walk.{end_of, refused_of, WalkJudged}
 use Rattle.table.specs.declared.Finding.{Finding}
 use Rattle.table.specs.declared.Finding.TheVariants.{Sound, Short}
 use Rattle.table.specs.declared.words.Word.{Word}
@@ -46,10 +45,10 @@ tasks_length (suc left) m ws at tasks end e = go (seen (task_in m ws at)) (λ ne
         cc
 
 -- A refusal of the check, as `check::refused` answers it.
-survey_refused : (ws : List ℕ) (found : Finding) (number place : ℕ) → said_of found ≡ says number place → check_of ws ≡ refused number place →
-    survey_said (refused_of found) ≡ survey_of ws
+survey_refused : (ws : List ℕ) (answer : Finding) (number place : ℕ) → said_of answer ≡ says number place → check_of ws ≡ refused number place →
+    survey_said (refused_of answer) ≡ survey_of ws
 unfolding map_of
-survey_refused ws found number place s e = rw (s, e)
+survey_refused ws answer number place s e = rw (s, e)
 
 -- The first word that is not sound.
 pub first_refused : (ws : List ℕ) (w : Word) → WordRefused COUNT 1 most_tasks ws 0 w → survey_said (refused_of w.finding) ≡ survey_of ws

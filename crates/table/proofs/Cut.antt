@@ -2,7 +2,7 @@
 -- says (`check_cut`). The idea: two lists that agree up to some place are read alike up to that place, one word, one step, one plan, one task and
 -- the tasks, and no reading of the check goes behind `room`. Assumes nothing.
 use Prim.Native.Nat.{ℕ, zero, suc, ◌+◌, ◌*◌, ◌≤◌, ◌<◌}
-use mathlib.Core.Path.{◌≡◌, refl, sym, ap, ◌∙◌}
+use mathlib.Core.Path.{◌≡◌, refl, ap, ◌∙◌}
 use mathlib.Core.Bool.{Bool, true, false}
 use mathlib.Core.List.{List, [], ◌∷◌}
 use native.Mathlib.Omega.{arith}
@@ -11,7 +11,7 @@ use lib.ListN.{length, get_or, take}
 use lib.Seq.{get_or-take, length-take-le, take_all}
 use borrow.Author.Tests.{lt-ltb, le-leb, ltb-true, ltb-false}
 use Rattle.numbers.specs.Answers.{RANGE, COUNT}
-use Rattle.table.specs.Limits.{most_tasks, most_resources, most_ticks, most_steps, room, at_tasks, at_plan, step_size, at_resource, at_length}
+use Rattle.table.specs.Limits.{most_tasks, most_resources, most_ticks, most_steps, room, at_plan, step_size, at_resource, at_length}
 use Rattle.table.specs.Table.{Step, Task, Table}
 use Rattle.table.specs.Held.{Section, held_after}
 use Rattle.table.specs.Spare.{spare_after}

@@ -2,8 +2,8 @@
 --     let Finding::Sound = finding else { .. };
 -- Assumes nothing.
 use Prim.Native.Nat.{ℕ}
-use mathlib.Core.Path.{◌≡◌, refl, ap, subst}
-use mathlib.Core.List.{List, [], ◌∷◌}
+use mathlib.Core.Path.{◌≡◌, refl, ap}
+use mathlib.Core.List.{List}
 use Rattle.numbers.specs.Answers.{SHORT, COUNT, RANGE, STEP, NEST, CROWDED}
 use Rattle.numbers.proofs.Tests.{never}
 use Rattle.table.specs.Said.{passes, says, said_of, Surveyed, survey_said, survey_of, check_said}

@@ -1,11 +1,11 @@
 -- Where the readings of the check end (`end_of`), one word, one step, one task at a time: what the loops of `walk::walk` go by.
 -- Each law opens one definition of `specs/Check.antt` at one turn. Assumes nothing.
 use Prim.Native.Nat.{ℕ, zero, suc, ◌+◌, ◌*◌, ◌≤◌, ◌<◌}
-use mathlib.Core.Path.{◌≡◌, refl, sym, ap, subst, ◌∙◌}
+use mathlib.Core.Path.{◌≡◌, refl, sym, ap, ◌∙◌}
 use mathlib.Core.Bool.{Bool, true, false, not, cond, ◌&&◌}
 use mathlib.Core.List.{List, [], ◌∷◌}
 use native.Mathlib.Omega.{arith}
-use lib.Dec.{ltb, leb, eqb}
+use lib.Dec.{ltb, leb}
 use lib.ListN.{length, get_or}
 use borrow.Author.Tests.{ltb-true, leb-true, leb-false, le-ltb, lt-ltb, le-leb, lt-leb, eq-eqb}
 use Rattle.numbers.specs.Answers.{SHORT, COUNT, RANGE, NEST}
@@ -16,7 +16,7 @@ use Rattle.table.specs.Held.{Section}
 use Rattle.table.specs.Spare.{crowded}
 use Rattle.table.specs.Check.{Read, got, bad, ◌and_then◌, word_in, broken_step, step_said, broken_nest, step_in, plan_in, task_in, tasks_in, nothing_held}
 use Rattle.table.specs.Said.{says, said_of}
-use Rattle.table.specs.Walk.{end_of, stopped_by, word_of, stopped_of, sections_in, spare_in, Standing, standing_in, standing_after, standing_behind, plan_from, Fair, Leaves, HeadJudged, StepJudged, WalkJudged}
+use Rattle.table.specs.Walk.{end_of, stopped_by, word_of, stopped_of, sections_in, spare_in, Standing, standing_in, standing_after, standing_behind, plan_from, Fair, Leaves, HeadJudged, StepJudged}
 use Rattle.table.specs.Map.{behind}
 use Rattle.table.specs.declared.Finding.{Finding}
 use Rattle.table.specs.declared.Finding.TheVariants.{Sound, Short, Nest, Crowded}
@@ -25,7 +25,6 @@ use Rattle.table.specs.declared.words.Word.{Word}
 use Rattle.table.specs.declared.words.Head.{Head}
 use Rattle.table.specs.declared.sections.Sections.{Sections}
 use Rattle.table.specs.declared.steps.Stepped.{Stepped}
-use Rattle.table.specs.declared.walk.Walked.{Walked}
 use Rattle.table.proofs.Findings.{refusal}
 
 -- What is not at most the other is above it.

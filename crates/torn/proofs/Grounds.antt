@@ -61,12 +61,12 @@ passed_sound (sound t) e = (t, refl)
 passed_sound (refused number place) e = never (cc)
 
 -- A finding that isn't `Sound` is a refusal.
-pub not_sound_lem : (found : Finding) (checked : Checked) → said_of found ≡ finding_said checked → (found ≡ finding.Sound → ⊥) → not_sound checked ≡ true
-not_sound_lem found (refused number place) e n = refl
-not_sound_lem found (sound t) e n = absurd (n (is_sound found e))
+pub not_sound_lem : (answer : Finding) (checked : Checked) → said_of answer ≡ finding_said checked → (answer ≡ finding.Sound → ⊥) → not_sound checked ≡ true
+not_sound_lem answer (refused number place) e n = refl
+not_sound_lem answer (sound t) e n = absurd (n (is_sound answer e))
 
-pub sound_told : (found : Finding) (checked : Checked) → said_of found ≡ finding_said checked → found ≡ finding.Sound → finding_said checked ≡ passes
-sound_told found checked e q = sym e ∙ ap said_of q
+pub sound_told : (answer : Finding) (checked : Checked) → said_of answer ≡ finding_said checked → answer ≡ finding.Sound → finding_said checked ≡ passes
+sound_told answer checked e q = sym e ∙ ap said_of q
 
 -- No more words are in use than there are.
 pub take_end : (words : List ℕ) (used end : ℕ) → end ≡ min used (length words) → take end words ≡ take used words
