@@ -41,7 +41,7 @@ events = release 1 0 ∷ step 1 ∷ release 0 1 ∷ release 2 2 ∷ step 4 ∷ s
 
 -- The words pass the check, so demand 3 speaks of this run.
 pub checked : Checks (check_of words)
-unfolding check_of word_in plan_in task_in tasks_in check.stepIn holds
+unfolding check_of word_in plan_in task_in tasks_in check.step_in holds
 checked = passes _
 
 pub demanded : Demand3 words
@@ -66,7 +66,7 @@ pub record Witnessed : Type 0 where
   pub turn : Named words events 5 1
 
 pub witnessed : Witnessed
-unfolding state_at state_after bit has with_of without_of any_below check_of word_in plan_in task_in tasks_in check.stepIn held_from holds locks deadlines_of
+unfolding state_at state_after bit has with_of without_of any_below check_of word_in plan_in task_in tasks_in check.step_in held_from holds locks deadlines_of
     least padded next_of best_from who_runs released locked unlocked cleared lateness turn_of accepted given none_ready held_by_another locks_held table_in fresh_state
     zero_state torn_table torn_clock torn_ready torn_place torn_times torn_last torn_count torn_numbers torn_by torn_of torn start_of release_of step_of
 witnessed = record {

@@ -15,22 +15,22 @@ use Rattle.dispatch.specs.Dispatch.{grounds_in}
 use Rattle.dispatch.specs.declared.State.{State}
 
 -- An event is turned away with a number exactly when that number's ground holds and none above it does.
-pub event_exactly : (s : State) (e : Event) (number : ℕ) → ((dispatch.eventOf s e).said ≡ refused number) ↔ Given number (grounds_in s e)
+pub event_exactly : (s : State) (e : Event) (number : ℕ) → ((dispatch.event_of s e).said ≡ refused number) ↔ Given number (grounds_in s e)
 event_exactly s e number = given_exactly (grounds_in s e) s.kept (accepted (table_in s) s.kept e) (accepted_ok (table_in s) s.kept e) number
 
 -- It is accepted exactly when no ground holds.
-pub event_accepted : (s : State) (e : Event) → Accepted (dispatch.eventOf s e).said ↔ NoGround (grounds_in s e)
+pub event_accepted : (s : State) (e : Event) → Accepted (dispatch.event_of s e).said ↔ NoGround (grounds_in s e)
 event_accepted s e = given_accepted (grounds_in s e) s.kept (accepted (table_in s) s.kept e) (accepted_ok (table_in s) s.kept e)
 
 -- ---- of the two calls
 
 pub release_exactly : (s : State) (i time number : ℕ) →
-    ((dispatch.releaseOf s i time).said ≡ refused number) ↔ Given number (grounds_in s (release i time))
-unfolding dispatch.releaseOf
+    ((dispatch.release_of s i time).said ≡ refused number) ↔ Given number (grounds_in s (release i time))
+unfolding dispatch.release_of
 release_exactly s i time number = event_exactly s (release i time) number
 
-pub release_accepted : (s : State) (i time : ℕ) → Accepted (dispatch.releaseOf s i time).said ↔ NoGround (grounds_in s (release i time))
-unfolding dispatch.releaseOf
+pub release_accepted : (s : State) (i time : ℕ) → Accepted (dispatch.release_of s i time).said ↔ NoGround (grounds_in s (release i time))
+unfolding dispatch.release_of
 release_accepted s i time = event_accepted s (release i time)
 
 pub step_exactly : (s : State) (time number : ℕ) → ((dispatch.step_of s time).said ≡ refused number) ↔ Given number (grounds_in s (step time))

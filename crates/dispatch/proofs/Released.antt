@@ -44,7 +44,7 @@ use Rattle.dispatch.proofs.Handed.{event_on}
 
 -- ---- an accepted release, whole
 
-module _ (s : State) (i time : ℕ) (ok : Accepted (dispatch.releaseOf s i time).said) where
+module _ (s : State) (i time : ℕ) (ok : Accepted (dispatch.release_of s i time).said) where
   grounds : NoGround (grounds_in s (release i time))
   grounds = (release_accepted s i time).0 ok
 
@@ -55,11 +55,11 @@ module _ (s : State) (i time : ℕ) (ok : Accepted (dispatch.releaseOf s i time)
   free : Releasable (table_in s) s.kept i time
   free = releasable (no_tail grounds)
 
-  pub release_went : dispatch.releaseOf s i time ≡ dispatch.after s (carried_out (table_in s) s.kept time (to_release i))
-  unfolding dispatch.releaseOf
+  pub release_went : dispatch.release_of s i time ≡ dispatch.after s (carried_out (table_in s) s.kept time (to_release i))
+  unfolding dispatch.release_of
   release_went = event_on s (release i time) ok ∙ ap (dispatch.after s) (accepted_release (table_in s) s.kept i time)
 
-  left : (dispatch.releaseOf s i time).state.kept ≡ released (table_in s) s.kept i time
+  left : (dispatch.release_of s i time).state.kept ≡ released (table_in s) s.kept i time
   left = ap (λ (h : Heard). h.state.kept) release_went
 
   pub release_row : i < most_tasks
@@ -71,25 +71,25 @@ module _ (s : State) (i time : ℕ) (ok : Accepted (dispatch.releaseOf s i time)
       omega arith
 
   pub release_changes : length s.kept.rows ≡ most_tasks →
-      Changed s.kept (dispatch.releaseOf s i time).state.kept i (new_job (time + (task_of (table_in s) i).D) s.kept.count time) true
+      Changed s.kept (dispatch.release_of s i time).state.kept i (new_job (time + (task_of (table_in s) i).D) s.kept.count time) true
   release_changes rows =
       rw left (released_changes (table_in s) s.kept i time (let l = release_row in omega arith) (let l = release_row in omega arith))
 
   -- "A release of task i at time t makes a job with base deadline t + D." "Its active deadline starts equal to the base (002, section 5)."
   pub release_makes : length s.kept.rows ≡ most_tasks →
-      row_of (dispatch.releaseOf s i time).state.kept i ≡ new_job (time + (task_of (table_in s) i).D) s.kept.count time
+      row_of (dispatch.release_of s i time).state.kept i ≡ new_job (time + (task_of (table_in s) i).D) s.kept.count time
   release_makes rows = (release_changes rows).row
 
   -- "An accepted release gives its job, as release number, the count of accepted releases before it."
-  pub release_number : length s.kept.rows ≡ most_tasks → (row_of (dispatch.releaseOf s i time).state.kept i).number ≡ s.kept.count
+  pub release_number : length s.kept.rows ≡ most_tasks → (row_of (dispatch.release_of s i time).state.kept i).number ≡ s.kept.count
   release_number rows = ap (λ (job : Job). job.number) (release_makes rows)
 
-  pub release_count : (dispatch.releaseOf s i time).state.kept.count ≡ s.kept.count + 1
+  pub release_count : (dispatch.release_of s i time).state.kept.count ≡ s.kept.count + 1
   unfolding released
   release_count = ap (λ (kept : Kept). kept.count) left
 
   -- The other rows stay.
-  pub release_others : (j : ℕ) → j ≢ i → row_of (dispatch.releaseOf s i time).state.kept j ≡ row_of s.kept j
+  pub release_others : (j : ℕ) → j ≢ i → row_of (dispatch.release_of s i time).state.kept j ≡ row_of s.kept j
   unfolding released
   release_others j differ = ap (λ (kept : Kept). row_of kept j) left ∙ get_or-set_other s.kept.rows i j _ no_job differ
 
@@ -106,15 +106,15 @@ module _ (s : State) (i time : ℕ) (ok : Accepted (dispatch.releaseOf s i time)
 
 -- "So a new job never takes over on a tie": where the reply to its release names the new job, its deadline is before that of every job that was ready.
 pub new_job_before : (s : State) (i time deadline : ℕ) → length s.kept.rows ≡ most_tasks →
-    (dispatch.releaseOf s i time).said ≡ went_on (runs i deadline) →
+    (dispatch.release_of s i time).said ≡ went_on (runs i deadline) →
     (j : ℕ) → j < most_tasks → has s.kept.ready j ≡ true → deadline < (row_of s.kept j).active
 new_job_before s i time deadline rows said j l h = go (ltb deadline (row_of s.kept j).active) refl (ltb (row_of s.kept j).active deadline) refl
   where
-    ok : Accepted (dispatch.releaseOf s i time).said
+    ok : Accepted (dispatch.release_of s i time).said
     ok = subst (λ (x : EventReply). Accepted x) (sym said) tt
 
     after : Kept
-    after = (dispatch.releaseOf s i time).state.kept
+    after = (dispatch.release_of s i time).state.kept
 
     as_released : after ≡ released (table_in s) s.kept i time
     as_released = left s i time ok

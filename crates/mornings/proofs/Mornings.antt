@@ -27,11 +27,11 @@ use Rattle.mornings.specs.Mornings.{m1, m2, m3, m4, m5, m6, m7, m8, m11_empty, m
 
 -- The single cases, computed.
 runs_hold : Holds m1 × Holds m2 × Holds m12
-unfolding replies bit has with_of without_of any_below check_of word_in plan_in task_in tasks_in check.stepIn held_from holds locks deadlines_of least padded next_of best_from who_runs released locked unlocked cleared lateness turn_of accepted given none_ready held_by_another locks_held table_in fresh_state zero_state torn_table torn_clock torn_ready torn_place torn_times torn_last torn_count torn_numbers torn_by torn_of torn start_of release_of step_of
+unfolding replies bit has with_of without_of any_below check_of word_in plan_in task_in tasks_in check.step_in held_from holds locks deadlines_of least padded next_of best_from who_runs released locked unlocked cleared lateness turn_of accepted given none_ready held_by_another locks_held table_in fresh_state zero_state torn_table torn_clock torn_ready torn_place torn_times torn_last torn_count torn_numbers torn_by torn_of torn start_of release_of step_of
 runs_hold = (refl, refl, refl)
 
 verdicts_hold : Holds m3 × Holds m4 × Holds m5 × Holds m6 × Holds m7 × Holds m8
-unfolding check_of word_in plan_in task_in tasks_in check.stepIn holds locks deadlines_of least demand_sum blocking_plan blocking_tasks divisor_in multiple_of multiple_with load_of largest first_late judge verdict_of
+unfolding check_of word_in plan_in task_in tasks_in check.step_in holds locks deadlines_of least demand_sum blocking_plan blocking_tasks divisor_in multiple_of multiple_with load_of largest first_late judge verdict_of
 verdicts_hold = (refl, refl, refl, refl, refl, refl)
 
 findings_hold : Holds m11_empty × Holds m11_zero

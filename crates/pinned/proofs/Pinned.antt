@@ -142,8 +142,8 @@ gcd_pinned a b = pinned_plain (divisor_of a b)
 pub verdict_number_pinned : (verdict : Verdict) → Pinned itself (judged.number_in (verdict_said verdict))
 verdict_number_pinned verdict = pinned_plain (judged.number_in (verdict_said verdict))
 
-pub verdict_value_pinned : (verdict : Verdict) → Pinned itself (judged.valueIn (verdict_said verdict))
-verdict_value_pinned verdict = pinned_plain (judged.valueIn (verdict_said verdict))
+pub verdict_value_pinned : (verdict : Verdict) → Pinned itself (judged.value_in (verdict_said verdict))
+verdict_value_pinned verdict = pinned_plain (judged.value_in (verdict_said verdict))
 
 pub verdict_pinned : (words : List ℕ) → Pinned verdict_said (verdict_of words)
 verdict_pinned words = pinned_by verdict_said verdict_from verdict_back (verdict_of words)
