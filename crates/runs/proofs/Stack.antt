@@ -52,6 +52,7 @@ module _ {floor : ℕ → ℕ} {clock base : ℕ} {saved : List ℕ} where
   -- None is above the clock plus the floor.
   pub entry_most : {held : List Section} {a : ℕ} {s : Section} {v : ℕ} → Stack floor clock base saved held a → Entry saved held a s v →
       v ≤ clock + floor s.resource
+  entry_most {s = s} {v = v} bare e = elim e [ ]
   entry_most (inside l f h) inmost = f
   entry_most (inside l f h) (further e) = entry_most h e
 
