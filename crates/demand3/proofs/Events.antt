@@ -4,7 +4,6 @@ use Prim.Native.Nat.{ℕ, suc, ◌≤◌, ◌<◌}
 use mathlib.Core.Path.{◌≡◌, refl, sym, ap, ◌∙◌}
 use mathlib.Core.Bool.{Bool, true, false, true≢false}
 use mathlib.Core.List.{List}
-use mathlib.Core.Logic.{◌≢◌}
 use native.Mathlib.Omega.{arith}
 use native.Mathlib.Numerals.{add-one}
 use native.Mathlib.Decide.{dec_lt}
@@ -13,7 +12,7 @@ use Rattle.sets.specs.Member.{width, has}
 use Rattle.table.specs.Limits.{most_tasks}
 use Rattle.table.specs.Table.{Table, tasks_of}
 use Rattle.machine.specs.Order.{row_of, who_runs}
-use Rattle.machine.specs.Reply.{EventReply, runs, idle}
+use Rattle.machine.specs.Reply.{EventReply, idle}
 use Rattle.machine.specs.Machine.{released, locked, unlocked, cleared}
 use Rattle.machine.specs.declared.Job.{Job}
 use Rattle.machine.specs.declared.Kept.{Kept}

@@ -7,7 +7,7 @@ use mathlib.Core.List.{List}
 use Rattle.table.specs.Limits.{most_tasks}
 use Rattle.table.specs.Table.{Table, tasks_of}
 use Rattle.runs.specs.Run.{Event}
-use Rattle.demand3.specs.Demand3.{state_at, Ready, Running, Named, Released, Holding, Entered}
+use Rattle.demand3.specs.Demand3.{state_at, Running, Named, Released, Holding, Entered}
 use Rattle.demand3.proofs.General.{Run, Facts}
 use Rattle.demand3.proofs.Events.{Good}
 use Rattle.demand3.proofs.Ready.{Known, known_one, nobody_first, runner_ready, ready_later, known_back}

@@ -10,7 +10,6 @@ use mathlib.Core.List.{List, []}
 use native.Mathlib.Nat.{lt_of_lt_of_le}
 use native.Mathlib.Omega.{arith}
 use lib.Dec.{leb}
-use lib.ListN.{length}
 use borrow.Author.Tests.{leb-true, leb-false}
 use Rattle.sets.specs.Member.{has}
 use Rattle.sets.proofs.Digit.{has_zero, same_everywhere}
