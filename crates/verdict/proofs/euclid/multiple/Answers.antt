@@ -1,32 +1,22 @@
--- `euclid::multiple` meets its contract: the periods still to come make P of what is reached, and what has passed the limit divides P.
--- Every product is at most 1,000,000 * 1,000,000.
--- Assumes nothing.
 use Prim.Native.Nat.{ℕ, zero, ◌+◌, ◌-◌, ◌*◌, ◌/◌, ◌≤◌, ◌<◌, min}
 use mathlib.Core.Path.{◌≡◌, refl, sym, subst, ap, ◌∙◌}
 use mathlib.Core.List.{List}
 use native.Mathlib.Nat.{mul-le-mul, div-le_self, le_trans}
 use native.Mathlib.Omega.{arith}
-use borrow.Author.Rules.{rules}
 use lib.ListN.{get_or}
 use Rattle.table.specs.Limits.{most_ticks, most_multiple}
 use Rattle.table.specs.Table.{Table, Task, tasks_of, task_of}
 use Rattle.table.specs.Valid.{Valid, ValidTask}
 use Rattle.verdict.specs.Multiple.{divisor_of, multiple_of, multiple_with, multiple}
-use Rattle.verdict.specs.Times.{ArePeriods, EveryTable}
+use Rattle.verdict.specs.Times.{ArePeriods}
 use Rattle.verdict.proofs.Each.{valid_periods}
 use Rattle.verdict.proofs.Divisor.{divisor_pos}
 use Rattle.verdict.proofs.Multiple.{multiple_pos, with_passes}
 use Rattle.verdict.proofs.Rest.{rest, each_rest, multiple_more, multiple_done}
-use Rattle.verdict.proofs.euclid.multiple.Statement.{statement}
-use Rattle.verdict.proofs.euclid.multiple.Tie as tie
+use Rattle.verdict.proofs.euclid.multiple.Invariants.{Reached}
+use Rattle.verdict.proofs.euclid.multiple.Goals as goal
 
 -- what is reached before task i
-record Reached (table : Table) (n p i : ℕ) : Type 0 where
-  count : n ≡ tasks_of table
-  within : i ≤ n
-  least : 1 ≤ p
-  most : p ≤ most_multiple
-  goes : multiple_with p (rest table i) ≡ multiple table
 
 module _ (table : Table) (periods : List ℕ) (v : Valid table) (are : ArePeriods table periods) (n p i : ℕ) (h : Reached table n p i) (l : i < n) where
   below : i < tasks_of table
@@ -72,97 +62,54 @@ module _ (table : Table) (periods : List ℕ) (v : Valid table) (are : ArePeriod
   }
 
 start : (table : Table) (n : ℕ) → n ≡ tasks_of table → Reached table n 1 0
+
 start table n e = record {
   count = e;
   within = omega arith;
   least = omega arith;
   most = omega arith;
   goes = refl;
+
 }
 
 -- no period is left
+
 ended : (table : Table) (n p i : ℕ) → Reached table n p i → n ≤ i → p ≡ min (multiple table) (most_multiple + 1)
+
 ended table n p i h l =
     let e : multiple_with p (rest table i) ≡ p = multiple_done table p i (subst (λ (k : ℕ). k ≤ i) h.count l) in
     omega (arith, h.goes, h.most)
 
-abbrev invariant-loop : tie.invariant-loop
-invariant-loop n periods p₀ i₀ p i = EveryTable n (λ table. ArePeriods table periods) (λ table. Reached table n p i)
+pub loop-i-init : goal.loop-i-init
+loop-i-init c = λ table v e a. start table _ e
 
-abbrev decreases-loop : tie.decreases-loop
-decreases-loop n periods p₀ i₀ p i = n - i
+pub offset_bounds-periods-i : goal.offset_bounds-periods-i
+offset_bounds-periods-i c =
+    let known = c.requires in omega (arith, known.count, known.valid.tasks_most, c.loop-i-test.true)
 
-loop-holds : tie.Need-loop-init invariant-loop decreases-loop
-loop-holds c = λ table v e a. start table _ e
+pub bounds-periods-i : goal.bounds-periods-i
+bounds-periods-i c =
+    let known = c.requires in omega (arith, known.count, known.valid.tasks_most, c.loop-i-test.true)
 
-cast-period : tie.Need-overflow-cast-period invariant-loop decreases-loop
-cast-period c = search rules
+pub nonzero_div-p : goal.nonzero_div-p
+nonzero_div-p c =     let known = c.requires in
+    let w = c.loop-i in
+    some_divisor _ c.args.periods.now known.valid known.so _ _ _ (w.invariant _ known.valid known.count known.so) c.loop-i-test.true c.gcd.ensures
 
-mul-period : tie.Need-overflow-mul-period invariant-loop decreases-loop
-mul-period c = let known = c.before.before.requires in omega (arith, known.count, known.valid.tasks_most, c.loop-test.true)
+pub overflow_mul-p : goal.overflow_mul-p
+overflow_mul-p c =     let known = c.requires in
+    let w = c.loop-i in
+    omega (arith, small known.table c.args.periods.now known.valid known.so _ w.p w.i (w.invariant _ known.valid known.count known.so) c.loop-i-test.true c.gcd.result)
 
-element-copy-out-period : tie.Need-element-copy-out-period invariant-loop decreases-loop
-element-copy-out-period c = let known = c.before.before.requires in omega (arith, known.count, known.valid.tasks_most, c.loop-test.true)
-
-gcd-requires : tie.Need-gcd-requires invariant-loop decreases-loop
-gcd-requires c κs = search rules
-
-div-p : tie.Need-nonzero-div-p invariant-loop decreases-loop
-div-p c =
-    let s = c.before.before.before.before in
-    let known = s.requires in
-    let w = c.before.before.before.loop in
-    some_divisor _ s.args.periods.now known.valid known.so _ _ _ (w.invariant _ known.valid known.count known.so) c.before.before.loop-test.true c.gcd.ensures
-
-mul-p : tie.Need-overflow-mul-p invariant-loop decreases-loop
-mul-p c =
-    let s = c.before.before.before.before in
-    let known = s.requires in
-    let w = c.before.before.before.loop in
-    omega (arith, small known.table s.args.periods.now known.valid known.so _ w.p w.i (w.invariant _ known.valid known.count known.so) c.before.before.loop-test.true c.gcd.result)
-
-add-result : tie.Need-overflow-add-result invariant-loop decreases-loop
-add-result c = search rules
-
-returns : tie.Need-returns invariant-loop decreases-loop
-returns c =
-    let s = c.before.before.before.before.before in
-    let w = c.before.before.before.before.loop in
+pub returns-then-p-gt-MOST_MULTIPLE : goal.returns-then-p-gt-MOST_MULTIPLE
+returns-then-p-gt-MOST_MULTIPLE c =     let w = c.loop-i in
     λ table v e a.
-    passed table s.args.periods.now v a _ _ _ (w.invariant table v e a) c.before.before.before.loop-test.true c.before.gcd.ensures c.if1.true
+    passed table c.args.periods.now v a _ _ _ (w.invariant table v e a) c.loop-i-test.true c.gcd.ensures c.if-p-gt-MOST_MULTIPLE.true
 
-add-i : tie.Need-overflow-add-i invariant-loop decreases-loop
-add-i c = search rules
-
-loop-less : tie.Need-loop-smaller invariant-loop decreases-loop
-loop-less c = omega arith
-
-loop-again : tie.Need-loop-preserved invariant-loop decreases-loop
-loop-again c =
-    let s = c.before.before.before.before.before in
-    let w = c.before.before.before.before.loop in
+pub loop-i-preserved : goal.loop-i-preserved
+loop-i-preserved c =     let w = c.loop-i in
     λ table v e a.
-    again table s.args.periods.now v a _ _ _ (w.invariant table v e a) c.before.before.before.loop-test.true c.before.gcd.ensures c.if1.false
+    again table c.args.periods.now v a _ _ _ (w.invariant table v e a) c.loop-i-test.true c.gcd.ensures c.if-p-gt-MOST_MULTIPLE.false
 
-returns-2 : tie.Need-returns-2 invariant-loop decreases-loop
-returns-2 c = λ table v e a. ended table _ _ _ (c.before.loop.invariant table v e a) c.loop-test.false
-
-pub multiple-spec : {M : Type 1} → statement M
-multiple-spec =
-    tie.close
-    (tie.spec
-    invariant-loop
-    decreases-loop
-    loop-holds
-    cast-period
-    mul-period
-    element-copy-out-period
-    gcd-requires
-    div-p
-    mul-p
-    add-result
-    returns
-    add-i
-    loop-less
-    loop-again
-    returns-2)
+pub returns : goal.returns
+returns c = λ table v e a. ended table _ _ _ (c.loop-i.invariant table v e a) c.loop-i-test.false
