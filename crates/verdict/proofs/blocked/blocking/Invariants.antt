@@ -8,7 +8,6 @@ use Rattle.verdict.proofs.Loop.{Greatest}
 use Rattle.verdict.proofs.blocked.blocking.Given as goal
 
 abbrev pub So : Table → ℕ → ℕ → ℕ → ℕ → Type 0
-
 So table t n most i = Greatest Task (blocking_tasks table t) table.tasks n most i
 
 abbrev pub invariant-loop-i : goal.invariant-loop-i

@@ -1,4 +1,4 @@
-use Prim.Native.Nat.{ℕ, ◌+◌, ◌-◌, ◌≤◌, ◌<◌, max}
+use Prim.Native.Nat.{ℕ, ◌+◌, ◌≤◌, ◌<◌, max}
 use mathlib.Core.Path.{◌≡◌, sym, subst, ap, ◌∙◌}
 use mathlib.Core.List.{List, ◌∷◌}
 use native.Mathlib.Numerals.{add-one}
@@ -14,7 +14,6 @@ use Rattle.verdict.proofs.blocked.blocking_plan.Goals as goal
 
 more : (table : Table) (t : ℕ) (plan : List Step) (n most k : ℕ) {part next : ℕ} → So table t plan n most k → k < n →
     part ≡ blocking_step table t (get_or plan k unlock) → next ≡ max most part → So table t plan n next (k + 1)
-
 more table t plan n most k {part} {next} s h e q =
     subst (λ (x : ℕ). So table t plan n x (k + 1)) (sym q)
     (greatest_more Step (blocking_plan table t) plan n most k part s h
@@ -26,7 +25,6 @@ more table t plan n most k {part} {next} s h e q =
         ∙ ap (λ (x : ℕ). get_or plan k unlock ∷ drop x plan) (sym (add-one k))
 
 done : (table : Table) (t : ℕ) (plan : List Step) (n most k : ℕ) → So table t plan n most k → n ≤ k → most ≡ blocking_plan table t plan
-
 done table t plan n most k s h =
     greatest_all Step (blocking_plan table t) plan n most k s
     (ap (blocking_plan table t) (drop_of_length-le plan (subst (λ (x : ℕ). x ≤ k) s.count h)) ∙ plan_nil table t)
@@ -38,10 +36,12 @@ pub blocking_step-requires : goal.blocking_step-requires
 blocking_step-requires c = c.requires
 
 pub loop-place-preserved : goal.loop-place-preserved
-loop-place-preserved c =     let table = table_at c.args.words.now c.args.map in
+loop-place-preserved c =
+    let table = table_at c.args.words.now c.args.map in
     more table c.args.t (task_of table c.args.task).plan _ _ _ c.loop-place.invariant c.loop-place-test.true
     c.blocking_step.ensures c.greater_u64-most.ensures
 
 pub returns : goal.returns
-returns c =     let table = table_at c.args.words.now c.args.map in
+returns c =
+    let table = table_at c.args.words.now c.args.map in
     done table c.args.t (task_of table c.args.task).plan _ _ _ c.loop-place.invariant c.loop-place-test.false

@@ -9,7 +9,6 @@ use Rattle.verdict.proofs.Loop.{Greatest}
 use Rattle.verdict.proofs.blocked.blocking_plan.Given as goal
 
 abbrev pub So : Table → ℕ → List Step → ℕ → ℕ → ℕ → Type 0
-
 So table t plan n most k = Greatest Step (blocking_plan table t) plan n most k
 
 abbrev pub invariant-loop-place : goal.invariant-loop-place

@@ -43,17 +43,22 @@ module _ (table : Table) (floors : List ℕ) (task place t : ℕ) (v : Valid tab
       sym (ap (blocking_step table t) (get_or-eq_default (task_of table task).plan unlock (next_above (task_of table task).plan place (sym said ∙ e))))
 
 pub bounds-floors-resource : goal.bounds-floors-resource
-bounds-floors-resource c =     there _ c.args.floors.now _ _ c.args.t c.requires.valid.0 c.requires.valid.1 c.requires.task_bound c.next-next.ensures c.in-Lock.is
+bounds-floors-resource c =
+    there _ c.args.floors.now _ _ c.args.t c.requires.valid.0 c.requires.valid.1 c.requires.task_bound c.next-next.ensures c.in-Lock.is
 
 pub returns-then-floors-resource : goal.returns-then-floors-resource
-returns-then-floors-resource c =     counts _ c.args.floors.now _ _ _ c.requires.valid.0 c.requires.valid.1 c.requires.task_bound c.next-next.ensures c.in-Lock.is
+returns-then-floors-resource c =
+    counts _ c.args.floors.now _ _ _ c.requires.valid.0 c.requires.valid.1 c.requires.task_bound c.next-next.ensures c.in-Lock.is
     (omega (arith, c.if-floors-resource.true))
 
 pub returns-else-floors-resource : goal.returns-else-floors-resource
-returns-else-floors-resource c =     misses _ c.args.floors.now _ _ _ c.requires.valid.0 c.requires.valid.1 c.requires.task_bound c.next-next.ensures c.in-Lock.is c.if-floors-resource.false
+returns-else-floors-resource c =
+    misses _ c.args.floors.now _ _ _ c.requires.valid.0 c.requires.valid.1 c.requires.task_bound c.next-next.ensures c.in-Lock.is c.if-floors-resource.false
 
 pub returns-in-Unlock : goal.returns-in-Unlock
-returns-in-Unlock c =     unlocks _ c.args.floors.now _ _ _ c.requires.valid.0 c.requires.valid.1 c.requires.task_bound c.next-next.ensures c.in-Unlock.is
+returns-in-Unlock c =
+    unlocks _ c.args.floors.now _ _ _ c.requires.valid.0 c.requires.valid.1 c.requires.task_bound c.next-next.ensures c.in-Unlock.is
 
 pub returns-in-Finish : goal.returns-in-Finish
-returns-in-Finish c =     finishes _ c.args.floors.now _ _ _ c.requires.valid.0 c.requires.valid.1 c.requires.task_bound c.next-next.ensures c.in-Finish.is
+returns-in-Finish c =
+    finishes _ c.args.floors.now _ _ _ c.requires.valid.0 c.requires.valid.1 c.requires.task_bound c.next-next.ensures c.in-Finish.is

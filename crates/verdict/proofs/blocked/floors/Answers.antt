@@ -1,4 +1,3 @@
-use Prim.Native.Nat.{◌-◌}
 use mathlib.Core.Path.{refl}
 use native.Mathlib.Nat.{lt_of_lt_of_le}
 use native.Mathlib.Omega.{arith}
@@ -11,7 +10,8 @@ pub loop-r-init : goal.loop-r-init
 loop-r-init c = filled_none _ _ _ refl
 
 pub loop-r-preserved : goal.loop-r-preserved
-loop-r-preserved c =     filled_more (floor_of (table_at c.args.words.now c.args.map)) _ _ _ c.loop-r.invariant (omega (arith, c.loop-r-test.true)) c.floor-floor.ensures
+loop-r-preserved c =
+    filled_more (floor_of (table_at c.args.words.now c.args.map)) _ _ _ c.loop-r.invariant (omega (arith, c.loop-r-test.true)) c.floor-floor.ensures
 
 pub returns : goal.returns
 returns c =

@@ -19,7 +19,6 @@ use Rattle.verdict.proofs.judge.first_late.Invariants.{Left}
 use Rattle.verdict.proofs.judge.first_late.Goals as goal
 
 -- the search from t on answers what the whole search does
-
 module _ (table : Table) (end t : ℕ) (f : Left table end t) where
   breaks : {both : ℕ} → t ≤ end → both ≡ demand table t + blocking table t → t < both → says LATE t ≡ first_late (suc end) 0 table
   breaks l e m =
@@ -51,47 +50,50 @@ module _ (table : Table) (end t : ℕ) (f : Left table end t) where
       none = omega arith
 
 -- where the search ends
-
 whole : (table : Table) (p : ℕ) {last : ℕ} {said : VerdictReply} → last ≡ largest table.tasks → said ≡ first_late (suc (p + last)) 0 table →
     said ≡ first_late (suc (p + largest table.tasks)) 0 table
-
 whole table p e q = q ∙ ap (λ (x : ℕ). first_late (suc (p + x)) 0 table) e
 
 near : (table : Table) {p last : ℕ} → Valid table → p ≤ most_multiple → last ≡ largest table.tasks → p + last ≤ most_multiple + most_ticks
-
 near table v l e = omega (arith, largest_most table.resources table.tasks (valid_each table v))
 
 pub largest-last-requires : goal.largest-last-requires
-largest-last-requires c =     let count = c.tasks-n.ensures ∙ sym (tasks_at_lem c.args.words.now c.args.map) in
+largest-last-requires c =
+    let count = c.tasks-n.ensures ∙ sym (tasks_at_lem c.args.words.now c.args.map) in
     record { table = table_at c.args.words.now c.args.map; valid = c.requires.valid.0; count = count; so = c.requires.are_times.are_deadlines }
 
 pub overflow_add-end : goal.overflow_add-end
-overflow_add-end c =     let table = table_at c.args.words.now c.args.map in
+overflow_add-end c =
+    let table = table_at c.args.words.now c.args.map in
     let count = c.tasks-n.ensures ∙ sym (tasks_at_lem c.args.words.now c.args.map) in
     let last = c.largest-last.ensures table c.requires.valid.0 count c.requires.are_times.are_deadlines in
     omega (arith, near table c.requires.valid.0 c.requires.p_le_most_multiple last)
 
 pub loop-t-init : goal.loop-t-init
-loop-t-init c =     record {
+loop-t-init c =
+    record {
       within = omega arith;
       goes = ap (λ (x : ℕ). first_late x 0 (table_at c.args.words.now c.args.map)) (sub-zero (suc (c.args.p + c.largest-last.result)));
     }
 
 pub demand_and_blocking-requires : goal.demand_and_blocking-requires
-demand_and_blocking-requires c =     let table = table_at c.args.words.now c.args.map in
+demand_and_blocking-requires c =
+    let table = table_at c.args.words.now c.args.map in
     let count = c.tasks-n.ensures ∙ sym (tasks_at_lem c.args.words.now c.args.map) in
     let last = c.largest-last.ensures table c.requires.valid.0 count c.requires.are_times.are_deadlines in
     record { valid = c.requires.valid; are_times = c.requires.are_times; last_value = (last, omega (arith, c.loop-t-test.true, near table c.requires.valid.0 c.requires.p_le_most_multiple last)) }
 
 pub returns-then-demand_and_blocking-t : goal.returns-then-demand_and_blocking-t
-returns-then-demand_and_blocking-t c =     let table = table_at c.args.words.now c.args.map in
+returns-then-demand_and_blocking-t c =
+    let table = table_at c.args.words.now c.args.map in
     let count = c.tasks-n.ensures ∙ sym (tasks_at_lem c.args.words.now c.args.map) in
     let last = c.largest-last.ensures table c.requires.valid.0 count c.requires.are_times.are_deadlines in
     whole table c.args.p last
     (breaks _ _ _ c.loop-t.invariant (omega (arith, c.loop-t-test.true)) c.demand_and_blocking.ensures c.if-demand_and_blocking-t.true)
 
 pub overflow_step-t : goal.overflow_step-t
-overflow_step-t c =     let table = table_at c.args.words.now c.args.map in
+overflow_step-t c =
+    let table = table_at c.args.words.now c.args.map in
     let count = c.tasks-n.ensures ∙ sym (tasks_at_lem c.args.words.now c.args.map) in
     let last = c.largest-last.ensures table c.requires.valid.0 count c.requires.are_times.are_deadlines in
     omega (arith, c.loop-t-test.true, near table c.requires.valid.0 c.requires.p_le_most_multiple last)
@@ -103,14 +105,16 @@ pub loop-t-preserved : goal.loop-t-preserved
 loop-t-preserved c = keeps _ _ _ c.loop-t.invariant (omega (arith, c.loop-t-test.true)) c.demand_and_blocking.ensures c.if-demand_and_blocking-t.false
 
 pub returns : goal.returns
-returns c =     let table = table_at c.args.words.now c.args.map in
+returns c =
+    let table = table_at c.args.words.now c.args.map in
     let count = c.tasks-n.ensures ∙ sym (tasks_at_lem c.args.words.now c.args.map) in
     let last = c.largest-last.ensures table c.requires.valid.0 count c.requires.are_times.are_deadlines in
     whole table c.args.p last (ended _ _ _ c.loop-t.invariant c.loop-t-test.false)
 
 pub returns-else-demand_and_blocking-t : goal.returns-else-demand_and_blocking-t
-returns-else-demand_and_blocking-t c =     let table = table_at c.args.words.now c.args.map in
+returns-else-demand_and_blocking-t c =
+    let table = table_at c.args.words.now c.args.map in
     let count = c.tasks-n.ensures ∙ sym (tasks_at_lem c.args.words.now c.args.map) in
     let last = c.largest-last.ensures table c.requires.valid.0 count c.requires.are_times.are_deadlines in
     let kept = keeps _ _ _ c.loop-t.invariant (omega (arith, c.loop-t-test.true)) c.demand_and_blocking.ensures c.if-demand_and_blocking-t.false in
-    whole table c.args.p last (ended _ _ _ kept (omega (arith, c.if-t-end.false)))
+    whole table c.args.p last (ended _ _ _ kept (omega arith))

@@ -34,26 +34,30 @@ module _ (table : Table) {p : ℕ} (is : p ≡ min (multiple table) (most_multip
         ∙ sym (judge_search table (subst (λ (x : ℕ). x ≤ most_multiple) (whole l) l) (omega (arith, whole l, its_load)))
 
 pub multiple-p-requires : goal.multiple-p-requires
-multiple-p-requires c =     let table = table_at c.args.words.now c.args.map in
+multiple-p-requires c =
+    let table = table_at c.args.words.now c.args.map in
     let count = c.tasks-n.ensures ∙ sym (tasks_at_lem c.args.words.now c.args.map) in
     let times = c.gather-times.ensures in
     record { table = table; valid = c.requires; count = count; so = times.are_periods }
 
 pub returns-then-p-gt-MOST_MULTIPLE : goal.returns-then-p-gt-MOST_MULTIPLE
-returns-then-p-gt-MOST_MULTIPLE c =     let table = table_at c.args.words.now c.args.map in
+returns-then-p-gt-MOST_MULTIPLE c =
+    let table = table_at c.args.words.now c.args.map in
     let count = c.tasks-n.ensures ∙ sym (tasks_at_lem c.args.words.now c.args.map) in
     let times = c.gather-times.ensures in
     let p-is = c.multiple-p.ensures table c.requires count times.are_periods in
     long table p-is c.if-p-gt-MOST_MULTIPLE.true
 
 pub load-requires : goal.load-requires
-load-requires c =     let table = table_at c.args.words.now c.args.map in
+load-requires c =
+    let table = table_at c.args.words.now c.args.map in
     let count = c.tasks-n.ensures ∙ sym (tasks_at_lem c.args.words.now c.args.map) in
     let times = c.gather-times.ensures in
     (record { table = table; valid = c.requires; count = count; so = (times.are_periods, times.are_costs) }, c.if-p-gt-MOST_MULTIPLE.false)
 
 pub returns-then-load-p : goal.returns-then-load-p
-returns-then-load-p c =     let table = table_at c.args.words.now c.args.map in
+returns-then-load-p c =
+    let table = table_at c.args.words.now c.args.map in
     let count = c.tasks-n.ensures ∙ sym (tasks_at_lem c.args.words.now c.args.map) in
     let times = c.gather-times.ensures in
     let p-is = c.multiple-p.ensures table c.requires count times.are_periods in
@@ -61,10 +65,12 @@ returns-then-load-p c =     let table = table_at c.args.words.now c.args.map in
     heavy table p-is c.if-p-gt-MOST_MULTIPLE.false loaded c.if-load-p.true
 
 pub first_late-requires : goal.first_late-requires
-first_late-requires c =     record { valid = (c.requires, c.floors-floors.ensures); are_times = c.gather-times.ensures; p_le_most_multiple = c.if-p-gt-MOST_MULTIPLE.false }
+first_late-requires c =
+    record { valid = (c.requires, c.floors-floors.ensures); are_times = c.gather-times.ensures; p_le_most_multiple = c.if-p-gt-MOST_MULTIPLE.false }
 
 pub returns : goal.returns
-returns c =     let table = table_at c.args.words.now c.args.map in
+returns c =
+    let table = table_at c.args.words.now c.args.map in
     let count = c.tasks-n.ensures ∙ sym (tasks_at_lem c.args.words.now c.args.map) in
     let times = c.gather-times.ensures in
     let p-is = c.multiple-p.ensures table c.requires count times.are_periods in

@@ -28,7 +28,6 @@ record Passing (ws : List ℕ) : Type 0 where
   is : check_of ws ≡ sound table
 
 passing : (ws : List ℕ) → passes ≡ check_said ws → Passing ws
-
 passing ws e = go (check_of ws) refl
   where
     go : (k : Checked) → check_of ws ≡ k → Passing ws
@@ -50,7 +49,6 @@ module _ (ws : List ℕ) {map : Map} (own : map ≡ map_of ws) (p : Passing ws) 
 -- ---- a list that is refused
 
 refuses : (ws : List ℕ) (said : checks.CheckReply) → said ≢ passes → said ≡ check_said ws → refusal_said said ≡ verdict_of ws
-
 refuses ws said n e = go (check_of ws) refl
   where
     go : (k : Checked) → check_of ws ≡ k → refusal_said said ≡ verdict_of ws
@@ -58,13 +56,16 @@ refuses ws said n e = go (check_of ws) refl
     go (refused number place) q = ap refusal_said (e ∙ ap finding_said q) ∙ sym (verdict_refused ws number place q)
 
 pub judge-requires : goal.judge-requires
-judge-requires c =     let w = c.survey-survey.ensures in
+judge-requires c =
+    let w = c.survey-survey.ensures in
     within c.args.words.now ((ap (λ (x : Surveyed). x.map) w)) (passing c.args.words.now (sym (ap said_of c.in-Sound.is) ∙ (ap (λ (x : Surveyed). x.said) w)))
 
 pub returns-in-Sound : goal.returns-in-Sound
-returns-in-Sound c =     let w = c.survey-survey.ensures in
+returns-in-Sound c =
+    let w = c.survey-survey.ensures in
     judged c.args.words.now ((ap (λ (x : Surveyed). x.map) w)) (passing c.args.words.now (sym (ap said_of c.in-Sound.is) ∙ (ap (λ (x : Surveyed). x.said) w))) c.judge.ensures
 
 pub returns : goal.returns
-returns c =     let found = c.survey-survey.result.finding in
+returns c =
+    let found = c.survey-survey.result.finding in
     refuses c.args.words.now (said_of found) (λ e. c.in_default.not-Sound (is_sound found e)) ((ap (λ (x : Surveyed). x.said) c.survey-survey.ensures))

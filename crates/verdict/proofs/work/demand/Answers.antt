@@ -1,4 +1,4 @@
-use Prim.Native.Nat.{ℕ, ◌+◌, ◌-◌, ◌≤◌, ◌<◌}
+use Prim.Native.Nat.{ℕ, ◌+◌, ◌≤◌, ◌<◌}
 use mathlib.Core.Path.{◌≡◌, sym, subst, ap, ◌∙◌}
 use mathlib.Core.List.{List}
 use native.Mathlib.Nat.{mul-le-mul_left, le_trans}
@@ -18,10 +18,8 @@ use Rattle.verdict.proofs.work.demand.Goals as goal
 -- the most that one task can ask for
 
 -- h(t) asks a task for T, D and C alone
-
 same-demand : (task : Task) (t : ℕ) {period deadline cost : ℕ} → period ≡ task.T → deadline ≡ task.D → cost ≡ task.C →
     demand_of (timed period deadline cost) t ≡ demand_of task t
-
 same-demand task t e q w = rw (e, q, w)
 
 module _ (table : Table) (periods deadlines costs : List ℕ) (t n sum i : ℕ) (v : Valid table) (l : t ≤ most_multiple + most_ticks)
@@ -82,7 +80,8 @@ bounds-costs-i c =
     let known = c.requires.0 in omega (arith, known.count, known.valid.tasks_most, c.loop-i-test.true)
 
 pub demand_of-sum-requires : goal.demand_of-sum-requires
-demand_of-sum-requires c =     let known = c.requires.0 in
+demand_of-sum-requires c =
+    let known = c.requires.0 in
     let w = c.loop-i in
     let so = w.invariant c.requires.1 known.table known.valid known.count known.so in
     let taken = c.loop-i-test.true in (
@@ -92,7 +91,8 @@ demand_of-sum-requires c =     let known = c.requires.0 in
     )
 
 pub overflow_add-sum : goal.overflow_add-sum
-overflow_add-sum c =     let known = c.requires.0 in
+overflow_add-sum c =
+    let known = c.requires.0 in
     let w = c.loop-i in
     let so : So known.table c.args.t c.args.n w.sum w.i = w.invariant c.requires.1 known.table known.valid known.count known.so in
     let part : c.demand_of-sum.result ≤ mostDemand =
@@ -102,13 +102,15 @@ overflow_add-sum c =     let known = c.requires.0 in
     omega (arith, so.small, so.count, known.valid.tasks_most, c.loop-i-test.true)
 
 pub loop-i-preserved : goal.loop-i-preserved
-loop-i-preserved c =     let w = c.loop-i in
+loop-i-preserved c =
+    let w = c.loop-i in
     λ l table v e a.
     more table c.args.periods.now c.args.deadlines.now c.args.costs.now _ _ _ _ v l a (w.invariant l table v e a)
     c.loop-i-test.true c.demand_of-sum.ensures
 
 pub returns : goal.returns
-returns c =     let w = c.loop-i in
+returns c =
+    let w = c.loop-i in
     λ table v e a.
     summed_all _ _ _ _ _ _ _ (w.invariant c.requires.1 table v e a)
     (demand_done table c.args.t w.i (subst (λ (k : ℕ). k ≤ w.i) e c.loop-i-test.false))

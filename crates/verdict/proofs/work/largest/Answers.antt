@@ -1,4 +1,4 @@
-use Prim.Native.Nat.{ℕ, ◌+◌, ◌-◌, ◌≤◌, ◌<◌, max}
+use Prim.Native.Nat.{ℕ, ◌+◌, ◌≤◌, ◌<◌, max}
 use mathlib.Core.Path.{◌≡◌, sym, subst, ap, ◌∙◌}
 use native.Mathlib.Omega.{arith}
 use Rattle.table.specs.Table.{Task, Table, task_of}
@@ -9,7 +9,6 @@ use Rattle.verdict.proofs.work.largest.Invariants.{So}
 use Rattle.verdict.proofs.work.largest.Goals as goal
 
 more : (table : Table) (n most i : ℕ) {d next : ℕ} → So table n most i → i < n → d ≡ (task_of table i).D → next ≡ max most d → So table n next (i + 1)
-
 more table n most i {d} {next} s h e q =
     subst (λ (x : ℕ). So table n x (i + 1)) (sym q)
     (greatest_more Task largest table.tasks n most i d s h

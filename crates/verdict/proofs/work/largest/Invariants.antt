@@ -8,7 +8,6 @@ use Rattle.verdict.proofs.Loop.{Greatest}
 use Rattle.verdict.proofs.work.largest.Given as goal
 
 abbrev pub So : Table → ℕ → ℕ → ℕ → Type 0
-
 So table n most i = Greatest Task largest table.tasks n most i
 
 abbrev pub invariant-loop-i : goal.invariant-loop-i

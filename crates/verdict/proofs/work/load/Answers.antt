@@ -1,4 +1,4 @@
-use Prim.Native.Nat.{ℕ, zero, ◌+◌, ◌-◌, ◌*◌, ◌/◌, ◌≤◌, ◌<◌}
+use Prim.Native.Nat.{ℕ, zero, ◌+◌, ◌*◌, ◌/◌, ◌≤◌, ◌<◌}
 use mathlib.Core.Path.{sym, subst, ap, ap₂, ◌∙◌}
 use mathlib.Core.List.{List}
 use native.Mathlib.Nat.{mul-le-mul, le_trans, div-le_self}
@@ -15,7 +15,6 @@ use Rattle.verdict.proofs.work.load.Invariants.{So, mostLoad}
 use Rattle.verdict.proofs.work.load.Goals as goal
 
 -- the most that one task adds
-
 module _ (table : Table) (periods costs : List ℕ) (p n sum i : ℕ) (v : Valid table) (l : p ≤ most_multiple) (are : ArePeriods table periods × AreCosts table costs)
     (s : So table p n sum i) (h : i < n) where
   below : i < tasks_of table
@@ -58,32 +57,37 @@ bounds-periods-i c =
     let known = c.requires.0 in omega (arith, known.count, known.valid.tasks_most, c.loop-i-test.true)
 
 pub overflow_mul-sum : goal.overflow_mul-sum
-overflow_mul-sum c =     let known = c.requires.0 in
+overflow_mul-sum c =
+    let known = c.requires.0 in
     let w = c.loop-i in
     let so = w.invariant c.requires.1 known.table known.valid known.count known.so in
     omega
     (arith, product known.table c.args.periods.now c.args.costs.now c.args.p _ _ w.i known.valid c.requires.1 known.so so c.loop-i-test.true)
 
 pub nonzero_div-sum : goal.nonzero_div-sum
-nonzero_div-sum c =     let known = c.requires.0 in
+nonzero_div-sum c =
+    let known = c.requires.0 in
     let w = c.loop-i in
     let so = w.invariant c.requires.1 known.table known.valid known.count known.so in
     some known.table c.args.periods.now c.args.costs.now _ _ _ _ known.valid c.requires.1 known.so so c.loop-i-test.true
 
 pub overflow_add-sum : goal.overflow_add-sum
-overflow_add-sum c =     let known = c.requires.0 in
+overflow_add-sum c =
+    let known = c.requires.0 in
     let w = c.loop-i in
     let so : So known.table c.args.p c.args.n w.sum w.i = w.invariant c.requires.1 known.table known.valid known.count known.so in
     let most = part known.table c.args.periods.now c.args.costs.now c.args.p c.args.n w.sum w.i known.valid c.requires.1 known.so so c.loop-i-test.true in
     omega (arith, so.small, so.count, known.valid.tasks_most, c.loop-i-test.true, most)
 
 pub loop-i-preserved : goal.loop-i-preserved
-loop-i-preserved c =     let w = c.loop-i in
+loop-i-preserved c =
+    let w = c.loop-i in
     λ l table v e a.
     more table c.args.periods.now c.args.costs.now _ _ _ _ v l a (w.invariant l table v e a) c.loop-i-test.true
 
 pub returns : goal.returns
-returns c =     let w = c.loop-i in
+returns c =
+    let w = c.loop-i in
     λ table v e a.
     summed_all _ _ _ _ _ _ _ (w.invariant c.requires.1 table v e a)
     (load_done table c.args.p w.i (subst (λ (k : ℕ). k ≤ w.i) e c.loop-i-test.false))

@@ -10,11 +10,9 @@ use Rattle.verdict.proofs.Loop.{Summed}
 use Rattle.verdict.proofs.work.load.Given as goal
 
 abbrev pub mostLoad : ℕ
-
 mostLoad = most_ticks * most_multiple
 
 abbrev pub So : Table → ℕ → ℕ → ℕ → ℕ → Type 0
-
 So table p n sum i = Summed Task (load_of p) mostLoad table.tasks n sum i
 
 abbrev pub invariant-loop-i : goal.invariant-loop-i
