@@ -101,7 +101,7 @@ with_passes limit p tasks l h =
 pub with_multiples : (p : ℕ) (tasks : List Task) → Multiples tasks (multiple_with p tasks)
 with_multiples p [] = tt
 with_multiples p (task ∷ tasks) =
-    rw (with_cons p task tasks)
+    subst (Multiples (task ∷ tasks)) (sym (with_cons p task tasks))
     (dvd_trans task.T (multiple_right p task.T) (with_divides (multiple_of p task.T) tasks), with_multiples (multiple_of p task.T) tasks)
 
 pub with_least : (p m : ℕ) (tasks : List Task) → zero < p → Periods tasks → p ∣ m → Multiples tasks m → multiple_with p tasks ∣ m

@@ -17,6 +17,7 @@ pub fn gcd(a: u64, b: u64) -> u64
 }
 
 // P of a table of n tasks with these periods, or 1,000,001 where it is above 1,000,000: it is left as soon as it passes the limit, since what is reached divides P.
+#[tactic(auto, using(crate::proofs::Reached::passed_every))]
 pub(crate) fn multiple(n: u32, periods: &[u64; TASKS]) -> u64
     requires { SomeTable n (λ table. ArePeriods table periods.now) }
     ensures { EveryTable n (λ table. ArePeriods table periods.now) (λ table. result ≡ min (multipleOfAll table) (most_multiple + 1)) }

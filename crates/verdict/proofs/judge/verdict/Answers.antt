@@ -6,7 +6,6 @@ use Prim.Native.Nat.{ℕ}
 use mathlib.Core.Path.{◌≡◌, refl, sym, subst, ap, ◌∙◌}
 use mathlib.Core.Logic.{◌≢◌}
 use mathlib.Core.List.{List}
-use borrow.Author.Rules.{rules}
 use Rattle.table.specs.Table.{Table}
 use Rattle.table.specs.Check.{Checked, sound, refused, check_of}
 use Rattle.table.specs.Map.{table_at, map_of}
@@ -14,14 +13,13 @@ use Rattle.table.specs.Valid.{Valid}
 use Rattle.table.specs.Said.{said_of, finding_said, check_said, passes}
 use Rattle.table.specs.Said as checks
 use Rattle.table.specs.declared.Map.{Map}
-use Rattle.table.proofs.Findings.{not_sound_lem, is_sound}
+use Rattle.table.proofs.Findings.{is_sound}
 use Rattle.numbers.proofs.Tests.{never}
 use Rattle.table.proofs.Laws.{checked_valid, table_at_lem}
 use Rattle.verdict.specs.Verdict.{VerdictReply, judge, verdict_of}
 use Rattle.verdict.specs.Said.{refusal_said}
 use Rattle.verdict.proofs.Judged.{verdict_sound, verdict_refused}
-use Rattle.verdict.proofs.judge.verdict.Statement.{statement}
-use Rattle.verdict.proofs.judge.verdict.Tie as tie
+use Rattle.verdict.proofs.judge.verdict.Goals as goal
 
 -- ---- a list that passes
 
@@ -57,29 +55,17 @@ refuses ws said n e = go (check_of ws) refl
     go (sound t) q = absurd (n (e ∙ ap finding_said q))
     go (refused number place) q = ap refusal_said (e ∙ ap finding_said q) ∙ sym (verdict_refused ws number place q)
 
-survey-requires : tie.Need-survey-requires
-survey-requires c κs = search rules
+pub judge-requires : goal.judge-requires
+judge-requires c =
+    let w = c.survey-survey.ensures in
+    within c.args.words.now ((ap (λ (x : Surveyed). x.map) w)) (passing c.args.words.now (sym (ap said_of c.in-Sound.is) ∙ (ap (λ (x : Surveyed). x.said) w)))
 
-enum_told : tie.Need-enum-told
-enum_told c = search rules
+pub returns-in-Sound : goal.returns-in-Sound
+returns-in-Sound c =
+    let w = c.survey-survey.ensures in
+    judged c.args.words.now ((ap (λ (x : Surveyed). x.map) w)) (passing c.args.words.now (sym (ap said_of c.in-Sound.is) ∙ (ap (λ (x : Surveyed). x.said) w))) c.judge.ensures
 
-judge-requires : tie.Need-judge-requires
-judge-requires c κs =
-    let s = c.before.before.before.before.before in
-    let w = c.before.before.before.survey.ensures in
-    within s.args.words.now ((ap (λ (x : Surveyed). x.map) w)) (passing s.args.words.now (sym (ap said_of c.before.enum_told.given.1) ∙ (ap (λ (x : Surveyed). x.said) w)))
-
-returns : tie.Need-returns
+pub returns : goal.returns
 returns c =
-    let s = c.before.before.before.before.before.before in
-    let w = c.before.before.before.before.survey.ensures in
-    judged s.args.words.now ((ap (λ (x : Surveyed). x.map) w)) (passing s.args.words.now (sym (ap said_of c.before.before.enum_told.given.1) ∙ (ap (λ (x : Surveyed). x.said) w))) c.judge.ensures
-
-returns-2 : tie.Need-returns-2
-returns-2 c =
-    let s = c.before.before.before in
-    let found = c.before.survey.result.finding in
-    refuses s.args.words.now (said_of found) (λ e. not_sound_lem found c.match.keys2 (is_sound found e)) ((ap (λ (x : Surveyed). x.said) c.before.survey.ensures))
-
-pub verdict-spec : {M : Type 1} → statement M
-verdict-spec = tie.close (tie.spec survey-requires enum_told judge-requires returns returns-2)
+    let found = c.survey-survey.result.finding in
+    refuses c.args.words.now (said_of found) (λ e. c.in_default.not-Sound (is_sound found e)) ((ap (λ (x : Surveyed). x.said) c.survey-survey.ensures))

@@ -6,7 +6,6 @@ use mathlib.Core.Path.{◌≡◌, sym, subst, ap, ◌∙◌}
 use mathlib.Core.List.{List}
 use native.Mathlib.Nat.{lt_of_lt_of_le}
 use native.Mathlib.Omega.{arith}
-use borrow.Author.Rules.{rules}
 use lib.ListN.{get_or, get_or-eq_default}
 use Rattle.table.specs.Limits.{most_resources}
 use Rattle.table.specs.Table.{lock, unlock, Table, tasks_of, task_of}
@@ -18,8 +17,7 @@ use Rattle.table.proofs.Plans.{lock_step, unlock_step, next_above, lock_below}
 use Rattle.verdict.specs.Blocking.{blocking_step}
 use Rattle.verdict.specs.Floors.{AreFloors}
 use Rattle.verdict.proofs.Blocking.{step_low, step_high}
-use Rattle.verdict.proofs.blocked.blocking_step.Statement.{statement}
-use Rattle.verdict.proofs.blocked.blocking_step.Tie as tie
+use Rattle.verdict.proofs.blocked.blocking_step.Goals as goal
 
 module _ (table : Table) (floors : List ℕ) (task place t : ℕ) (v : Valid table) (all : AreFloors table floors) (below : task < tasks_of table)
     {next : Next} (said : next ≡ next_of (task_of table task).plan place) where
@@ -44,66 +42,23 @@ module _ (table : Table) (floors : List ℕ) (task place t : ℕ) (v : Valid tab
   finishes e =
       sym (ap (blocking_step table t) (get_or-eq_default (task_of table task).plan unlock (next_above (task_of table task).plan place (sym said ∙ e))))
 
-next-requires : tie.Need-next-requires
-next-requires c κs = search rules
+pub bounds-floors-resource : goal.bounds-floors-resource
+bounds-floors-resource c =
+    there _ c.args.floors.now _ _ c.args.t c.requires.valid.0 c.requires.valid.1 c.requires.task_bound c.next-next.ensures c.in-Lock.is
 
-enum-known-next : tie.Need-enum-known-next
-enum-known-next c = search rules
+pub returns-then-floors-resource : goal.returns-then-floors-resource
+returns-then-floors-resource c =
+    counts _ c.args.floors.now _ _ _ c.requires.valid.0 c.requires.valid.1 c.requires.task_bound c.next-next.ensures c.in-Lock.is
+    (omega (arith, c.if-floors-resource.true))
 
-cast-if1 : tie.Need-overflow-cast-if1
-cast-if1 c = search rules
+pub returns-else-floors-resource : goal.returns-else-floors-resource
+returns-else-floors-resource c =
+    misses _ c.args.floors.now _ _ _ c.requires.valid.0 c.requires.valid.1 c.requires.task_bound c.next-next.ensures c.in-Lock.is c.if-floors-resource.false
 
-mul-if1 : tie.Need-overflow-mul-if1
-mul-if1 c = search rules
+pub returns-in-Unlock : goal.returns-in-Unlock
+returns-in-Unlock c =
+    unlocks _ c.args.floors.now _ _ _ c.requires.valid.0 c.requires.valid.1 c.requires.task_bound c.next-next.ensures c.in-Unlock.is
 
-element-copy-out-if1 : tie.Need-element-copy-out-if1
-element-copy-out-if1 c =
-    let s = c.before.before.before.before.before in
-    there _ s.args.floors.now _ _ s.args.t s.requires.0.0 s.requires.0.1 s.requires.1 c.before.before.before.next.ensures c.before.next2.given.1
-
-cast-result : tie.Need-overflow-cast-result
-cast-result c = search rules
-
-returns : tie.Need-returns
-returns c =
-    let s = c.before.before.before.before.before.before.before in
-    counts _ s.args.floors.now _ _ _ s.requires.0.0 s.requires.0.1 s.requires.1 c.before.before.before.before.before.next.ensures c.before.before.before.next2.given.1
-    (omega (arith, c.if1.true))
-
-enum_told : tie.Need-enum-told
-enum_told c = search rules
-
-enum-told-2 : tie.Need-enum-told-2
-enum-told-2 c = search rules
-
-returns-2 : tie.Need-returns-2
-returns-2 c =
-    let s = c.before.before.before.before.before.before.before in
-    misses _ s.args.floors.now _ _ _ s.requires.0.0 s.requires.0.1 s.requires.1 c.before.before.before.before.before.next.ensures c.before.before.before.next2.given.1 c.if1.false
-
-returns-3 : tie.Need-returns-3
-returns-3 c =
-    let s = c.before.before.before.before in
-    unlocks _ s.args.floors.now _ _ _ s.requires.0.0 s.requires.0.1 s.requires.1 c.before.before.next.ensures c.enum_told.given.1
-
-returns-4 : tie.Need-returns-4
-returns-4 c =
-    let s = c.before.before.before.before in
-    finishes _ s.args.floors.now _ _ _ s.requires.0.0 s.requires.0.1 s.requires.1 c.before.before.next.ensures c.enum-told2.given.1
-
-pub blocking-step-spec : {M : Type 1} → statement M
-blocking-step-spec =
-    tie.close
-    (tie.spec
-    next-requires
-    enum-known-next
-    cast-if1
-    mul-if1
-    element-copy-out-if1
-    cast-result
-    returns
-    enum_told
-    enum-told-2
-    returns-2
-    returns-3
-    returns-4)
+pub returns-in-Finish : goal.returns-in-Finish
+returns-in-Finish c =
+    finishes _ c.args.floors.now _ _ _ c.requires.valid.0 c.requires.valid.1 c.requires.task_bound c.next-next.ensures c.in-Finish.is
