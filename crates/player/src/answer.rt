@@ -66,7 +66,7 @@ fn counted(session: Session) -> Session
         words,
         length: session.length,
         state,
-        lines: std::num::wrapping_add_u64(session.lines, 1),
+        lines: session.lines.wrapping_add(1),
     }
 }
 

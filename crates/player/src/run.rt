@@ -1,10 +1,12 @@
 // A whole script: from standard input, in pieces of any size, to standard output. No contract can say what is read or written, so these functions promise
-// that they are safe and end; the answer to each line is `answer::answer`'s, which has a promise.
+// that they are safe and end; the answer to each line is `answer::answer`'s, which has a promise. A read or a write that fails ends the run with its error.
 ghost use Rattle.std.specs.Prelude.{◌≤◌, length};
 
 use crate::Session;
 use crate::answer::{answer, session};
 use crate::limits::{LINE, MOST_ANSWER, PIECE};
+use std::io;
+use std::io::Read;
 
 // What is kept between the pieces: the session, how many bytes of a line have come, and how many bytes are to be written out.
 #[derive(Clone, Copy)]
@@ -55,36 +57,43 @@ fn append(room: &mut [u8], length: usize, part: &[u8]) -> usize {
 }
 
 // Writes out what is there.
-fn write_out(out: &[u8], filled: usize) {
+fn write_out<R: Print>(rt: &R, out: &[u8], filled: usize) -> io::Result<()> {
     let n = numbers::lesser_usize(filled, out.len());
-    io::write_all(libc::STDOUT_FILENO, &out[..n]);
+    rt.write_all(&out[..n])
 }
 
 // Writes out what is there, unless there is room for one more answer.
-fn flushed(out: &[u8], filled: usize) -> usize {
+fn flushed<R: Print>(rt: &R, out: &[u8], filled: usize) -> io::Result<usize> {
     if filled < out.len() && MOST_ANSWER <= out.len() - filled {
-        return filled;
+        return Ok(filled);
     }
-    write_out(out, filled);
-    0
+    write_out(rt, out, filled)?;
+    Ok(0)
 }
 
 // Answers a line that has come whole.
-fn line_done(room: &[u8], length: usize, out: &mut [u8], feed: Feed) -> Feed {
+fn line_done<R: Print>(
+    rt: &R,
+    room: &[u8],
+    length: usize,
+    out: &mut [u8],
+    feed: Feed,
+) -> io::Result<Feed> {
     let n = numbers::lesser_usize(length, room.len());
     let from = numbers::lesser_usize(feed.filled, out.len());
     let before = feed.session;
     let done = answer(before, &room[..n], &mut out[from..]);
     let after = done.session;
     let filled = flushed(
+        rt,
         out,
         from + numbers::lesser_usize(done.bytes, out.len() - from),
-    );
-    Feed {
+    )?;
+    Ok(Feed {
         session: after,
         length: 0,
         filled,
-    }
+    })
 }
 
 // The same with another number of bytes of a line.
@@ -98,89 +107,114 @@ fn with_length(feed: Feed, length: usize) -> Feed {
 }
 
 // Takes a part of a piece: the rest of a line if a line feed ends it, else some more of it.
-fn part_taken(
+fn part_taken<R: Print>(
+    rt: &R,
     piece: &[u8],
     at: usize,
     end: usize,
     room: &mut [u8],
     out: &mut [u8],
     feed: Feed,
-) -> Feed
+) -> io::Result<Feed>
     requires { (at ≤ end) × (end ≤ length piece.now) }
 {
     let length = append(room, feed.length, &piece[at..end]);
     if end < piece.len() {
-        return line_done(room, length, out, feed);
+        return line_done(rt, room, length, out, feed);
     }
-    with_length(feed, length)
+    Ok(with_length(feed, length))
 }
 
 // Takes a piece of the script: answers every line that ends in it, and keeps the rest.
-fn taken(piece: &[u8], room: &mut [u8], out: &mut [u8], before: Feed) -> Feed {
+fn taken<R: Print>(
+    rt: &R,
+    piece: &[u8],
+    room: &mut [u8],
+    out: &mut [u8],
+    before: Feed,
+) -> io::Result<Feed> {
     let mut feed = before;
     let mut at = 0;
     while at < piece.len() {
         let end = line_end(piece, at);
-        feed = part_taken(piece, at, end, room, out, feed);
+        feed = part_taken(rt, piece, at, end, room, out, feed)?;
         at = end + 1;
     }
-    feed
+    Ok(feed)
 }
 
 // Reads a piece, and takes it.
-fn read_piece(piece: &mut [u8], room: &mut [u8], out: &mut [u8], feed: Feed) -> Came {
-    let got = libc::read(libc::STDIN_FILENO, piece);
-    if got <= 0 {
-        return Came { feed, more: false };
+fn read_piece<R: Input + Print>(
+    rt: &R,
+    piece: &mut [u8],
+    room: &mut [u8],
+    out: &mut [u8],
+    feed: Feed,
+) -> io::Result<Came> {
+    let mut input = rt.reader();
+    let got = input.read(piece)?;
+    if got == 0 {
+        return Ok(Came { feed, more: false });
     }
-    let n = io::count(got, piece);
-    let next = taken(&piece[..n], room, out, feed);
-    Came {
+    let next = taken(rt, &piece[..got], room, out, feed)?;
+    Ok(Came {
         feed: next,
         more: true,
-    }
+    })
 }
 
 // Reads to the end. A proved loop has to end, and nothing says that the input does: so the loop counts its turns down, from a number that no run uses up.
-fn read_all(piece: &mut [u8], room: &mut [u8], out: &mut [u8], before: Feed) -> Feed {
+fn read_all<R: Input + Print>(
+    rt: &R,
+    piece: &mut [u8],
+    room: &mut [u8],
+    out: &mut [u8],
+    before: Feed,
+) -> io::Result<Feed> {
     let mut feed = before;
     let mut turns = u64::MAX;
     while turns > 0 {
-        let came = read_piece(piece, room, out, feed);
+        let came = read_piece(rt, piece, room, out, feed)?;
         feed = came.feed;
         if !came.more {
-            return feed;
+            return Ok(feed);
         }
         turns -= 1;
     }
-    feed
+    Ok(feed)
 }
 
 // The end: a last line without a line feed is a line.
-fn ended(room: &[u8], out: &mut [u8], feed: Feed) -> usize {
+fn ended<R: Print>(rt: &R, room: &[u8], out: &mut [u8], feed: Feed) -> io::Result<usize> {
     if 0 < feed.length {
-        return line_done(room, feed.length, out, feed).filled;
+        let last = line_done(rt, room, feed.length, out, feed)?;
+        return Ok(last.filled);
     }
-    feed.filled
+    Ok(feed.filled)
 }
 
 // Reads, answers and writes out a whole script. A line longer than its room is kept up to the room, by which it is known to be too long.
-fn played(piece: &mut [u8], room: &mut [u8], out: &mut [u8]) {
+fn played<R: Input + Print>(
+    rt: &R,
+    piece: &mut [u8],
+    room: &mut [u8],
+    out: &mut [u8],
+) -> io::Result<()> {
     let first = session();
     let feed = Feed {
         session: first,
         length: 0,
         filled: 0,
     };
-    let last = read_all(piece, room, out, feed);
-    let filled = ended(room, out, last);
-    write_out(out, filled);
+    let last = read_all(rt, piece, room, out, feed)?;
+    let filled = ended(rt, room, out, last)?;
+    write_out(rt, out, filled)
 }
 
 // Plays the script on standard input. The room for a line has one byte more than a line may have.
-pub fn play() {
+pub fn play<R: Input + Print>(rt: &R) -> io::Result<()> {
     let mut piece = [0u8; PIECE];
     let mut room = [0u8; LINE];
     let mut out = [0u8; PIECE];
-    played(&mut piece, &mut room, &mut out);
+    played(rt, &mut piece, &mut room, &mut out)
 }
