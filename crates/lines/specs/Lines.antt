@@ -47,7 +47,7 @@ turn_text reply.idle = bytes "idle"
 -- A reply: `runs 2, 30`, `idle`, `lateness -7; runs 2, 21`, `lateness -8; idle` or `refused 7 BACK`.
 abbrev pub reply_text : reply.EventReply → List ℕ
 reply_text (reply.refused number) = refused_text number
-reply_text (reply.went_on_lem turn) = turn_text turn
+reply_text (reply.went_on turn) = turn_text turn
 reply_text (reply.finished late turn) = bytes "lateness " ++ signed late ++ bytes "; " ++ turn_text turn
 
 -- `20 FITS`, `21 LATE 20`, `22 HEAVY`, `23 LONG`, or `refused 3 RANGE at 4`; 0, which is no refusal's number, is said of a list that passes.

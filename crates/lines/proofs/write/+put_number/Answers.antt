@@ -11,17 +11,19 @@ use Rattle.lines.proofs.write.put_number.Reads as put-number
 use Rattle.lines.proofs.write.put_number.Kinds as put-number-kinds
 use Rattle.lines.proofs.write.+put_number.Lts-put_number as put-number-lts
 use Rattle.lines.proofs.write.put.Reads as put_reads
-use Rattle.lines.proofs.write.+put_number.{statement}
-use Rattle.lines.proofs.write.+put_number.Tie.{close}
+use Rattle.lines.proofs.write.+put_number.Goals as goal
 
 abbrev μ-put-number : Measures 1 put-number-kinds.ps ℕ
+
 μ-put-number κs a = a.1.1.0
 
 abbrev put-number-at : ℕ → In 1 put-number-kinds.ps
+
 put-number-at t =
     and 1 put-number-kinds.ps (is 1 put-number-kinds.ps μ-put-number t) put-number.Pre
 
 abbrev put-number-below : ℕ → In 1 put-number-kinds.ps
+
 put-number-below t =
     and 1 put-number-kinds.ps (falls 1 put-number-kinds.ps ◌<◌ μ-put-number t) put-number.Pre
 
@@ -30,7 +32,9 @@ put-number-cast-put : (t : ℕ) → put-number-lts.Need-overflow-cast-put (
   put_reads.Learnt,
   put-number-below t,
   put-number.Post,
+
 ) (put-number-at t) put-number.Post
+
 put-number-cast-put t c = search rules
 
 put-number-add-put : (t : ℕ) → put-number-lts.Need-overflow-add-put (
@@ -38,7 +42,9 @@ put-number-add-put : (t : ℕ) → put-number-lts.Need-overflow-add-put (
   put_reads.Learnt,
   put-number-below t,
   put-number.Post,
+
 ) (put-number-at t) put-number.Post
+
 put-number-add-put t c = search rules
 
 put-number-put-requires : (t : ℕ) → put-number-lts.Need-put-requires (
@@ -46,7 +52,9 @@ put-number-put-requires : (t : ℕ) → put-number-lts.Need-put-requires (
   put_reads.Learnt,
   put-number-below t,
   put-number.Post,
+
 ) (put-number-at t) put-number.Post
+
 put-number-put-requires t c κs = tt
 
 put-number-same-length : (t : ℕ) → put-number-lts.Need-same-length (
@@ -54,7 +62,9 @@ put-number-same-length : (t : ℕ) → put-number-lts.Need-same-length (
   put_reads.Learnt,
   put-number-below t,
   put-number.Post,
+
 ) (put-number-at t) put-number.Post
+
 put-number-same-length t c = laid_length c.before.before.put.ensures
 
 put-number-returns : (t : ℕ) → put-number-lts.Need-returns (
@@ -62,7 +72,9 @@ put-number-returns : (t : ℕ) → put-number-lts.Need-returns (
   put_reads.Learnt,
   put-number-below t,
   put-number.Post,
+
 ) (put-number-at t) put-number.Post
+
 put-number-returns t c = rw (digits_low c.before.before.before.before.before.before.args.n (omega arith)) c.before.before.put.ensures
 
 put-number-put-number-requires : (t : ℕ) → put-number-lts.Need-put-number-requires (
@@ -70,7 +82,9 @@ put-number-put-number-requires : (t : ℕ) → put-number-lts.Need-put-number-re
   put_reads.Learnt,
   put-number-below t,
   put-number.Post,
+
 ) (put-number-at t) put-number.Post
+
 put-number-put-number-requires t c κs = (omega arith, tt)
 
 put-number-cast-put-2 : (t : ℕ) → put-number-lts.Need-overflow-cast-put-2 (
@@ -78,7 +92,9 @@ put-number-cast-put-2 : (t : ℕ) → put-number-lts.Need-overflow-cast-put-2 (
   put_reads.Learnt,
   put-number-below t,
   put-number.Post,
+
 ) (put-number-at t) put-number.Post
+
 put-number-cast-put-2 t c = search rules
 
 put-number-add-put-2 : (t : ℕ) → put-number-lts.Need-overflow-add-put-2 (
@@ -86,7 +102,9 @@ put-number-add-put-2 : (t : ℕ) → put-number-lts.Need-overflow-add-put-2 (
   put_reads.Learnt,
   put-number-below t,
   put-number.Post,
+
 ) (put-number-at t) put-number.Post
+
 put-number-add-put-2 t c = search rules
 
 put-number-put-requires-2 : (t : ℕ) → put-number-lts.Need-put-requires-2 (
@@ -94,7 +112,9 @@ put-number-put-requires-2 : (t : ℕ) → put-number-lts.Need-put-requires-2 (
   put_reads.Learnt,
   put-number-below t,
   put-number.Post,
+
 ) (put-number-at t) put-number.Post
+
 put-number-put-requires-2 t c κs = tt
 
 put-number-same-length-2 : (t : ℕ) → put-number-lts.Need-same-length-2 (
@@ -102,7 +122,9 @@ put-number-same-length-2 : (t : ℕ) → put-number-lts.Need-same-length-2 (
   put_reads.Learnt,
   put-number-below t,
   put-number.Post,
+
 ) (put-number-at t) put-number.Post
+
 put-number-same-length-2 t c =
     laid_length (then c.before.before.before.before.before.before.put-number.ensures c.before.before.put2.ensures)
 
@@ -111,17 +133,13 @@ put-number-returns-2 : (t : ℕ) → put-number-lts.Need-returns-2 (
   put_reads.Learnt,
   put-number-below t,
   put-number.Post,
+
 ) (put-number-at t) put-number.Post
+
 put-number-returns-2 t c =
     rw (digits_high c.before.before.before.before.before.before.before.before.before.before.args.n (omega arith))
     (then c.before.before.before.before.before.before.put-number.ensures c.before.before.put2.ensures)
 
-pub +put-number-spec : {M : Type 1} → statement M
-+put-number-spec = close μ-put-number λ t. put-number-lts.spec (
-  put_reads.Asked,
-  put_reads.Learnt,
-  put-number-below t,
-  put-number.Post,
 )
     (put-number-at t)
     put-number.Post
