@@ -3,7 +3,7 @@ use Rattle.lines.proofs.Names.{finding_refused}
 use Rattle.lines.proofs.write.put_finding.Goals as goal
 
 pub returns-in_default : goal.returns-in_default
-returns-in_default c = rw (finding_refused c.args.passes.now c.args.finding c.in_default.in_default-own.keys2, ← c.number.ensures, ← c.place.ensures)
+returns-in_default c = rw (finding_refused c.args.passes.now c.args.finding c.in_default.not-Sound, ← c.number.ensures, ← c.place.ensures)
     c.put_placed.ensures
 
 pub returns : goal.returns

@@ -10,18 +10,13 @@ pub loop-k-init : goal.loop-k-init
 loop-k-init c = (omega arith, λ b to l. l)
 
 pub loop-k-preserved : goal.loop-k-preserved
-loop-k-preserved c =     let held = c.args.held in
+loop-k-preserved c =
+    let held = c.args.held in
     let below : c.loop-k.k < width = c.loop-k-test.true in
     (omega arith, λ b to r. c.loop-k.invariant.1 b to (rw (rest_step held c.loop-k.k below) (then c.put_member-next.ensures r)))
 
 -- behind the loop nothing is left, so all of it is laid
-
-laid : (c : goal.After-loop-k) →
-    Laid (rest_text c.before.before.before.args.held 0) c.before.before.before.args.buffer.now c.before.before.before.args.at c.before.loop.buffer c.before.loop.next
-
-laid c =
-    c.loop-k.invariant.1 _ _
-    (rw (rest_none c.args.held c.loop-k.k c.loop-k-test.false) (none_laid _ _))
-
 pub returns : goal.returns
-returns c = rw (← rest_all c.args.held) (laid c)
+returns c =
+    let held = c.args.held in
+    rw (← rest_all held) (c.loop-k.invariant.1 _ _ (rw (rest_none held c.loop-k.k c.loop-k-test.false) (none_laid _ _)))

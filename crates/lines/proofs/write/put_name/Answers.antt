@@ -73,4 +73,4 @@ unfolding name_in
 returns-in-23 c = rw c.in-23.is c.put_text-in-23.ensures
 
 pub returns-in_default : goal.returns-in_default
-returns-in_default c = rw (unnamed c.args.number c.in_default.rest) (none_laid _ _)
+returns-in_default c = rw (unnamed c.args.number (assumption c.in_default)) (none_laid _ _)

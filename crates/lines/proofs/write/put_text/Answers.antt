@@ -9,11 +9,11 @@ pub loop-i-init : goal.loop-i-init
 loop-i-init c = (omega arith, none_laid _ _)
 
 pub loop-i-preserved : goal.loop-i-preserved
-loop-i-preserved c =     let a = a'.before in
-    let text = a.before.before.before.args.text.now in
-    let i = a.loop.i in (
+loop-i-preserved c =
+    let text = c.args.text.now in
+    let i = c.loop-i.i in (
       omega arith,
-      rw (add-one i, take-suc text i 0 c.loop-i-test.true) (then a.loop.invariant.1 c.put-next.ensures),
+      rw (add-one i, take-suc text i 0 c.loop-i-test.true) (then c.loop-i.invariant.1 c.put-next.ensures),
     )
 
 pub returns : goal.returns
