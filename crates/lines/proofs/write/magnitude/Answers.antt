@@ -10,38 +10,38 @@ use mir.Facts.{to_z-of_z, Fits-nat_abs}
 use Rattle.lines.proofs.Sign.{above, below_size, not_below}
 use Rattle.lines.proofs.write.magnitude.Goals as goal
 
--- the number itself, -1 less the number, and that both are read back as they are
+-- In the answers: the number itself is read back as it is (`same`, `back`), and so is -1 less the number (`is_above`, `fits_above`, `same_above`).
 
 pub overflow_sub-above : goal.overflow_sub-above
 overflow_sub-above c =
     let same : to_z w64 (of_z w64 c.args.n) ≡ c.args.n = to_z-of_z c.ranges.n in
-    let is-above : negsuc 0 -ℤ c.args.n ≡ pos (mag c.args.n) = above c.args.n (rw same at c.if-n-lt0.true) in
-    let fits-above : SFits w64 (pos (mag c.args.n)) = record { sfits = c.ranges.n.sfits } in
-    rw (same, is-above) fits-above
+    let is_above : negsuc 0 -ℤ c.args.n ≡ pos (mag c.args.n) = above c.args.n (rw same at c.if-n-lt0.true) in
+    let fits_above : SFits w64 (pos (mag c.args.n)) = record { sfits = c.ranges.n.sfits } in
+    rw (same, is_above) fits_above
 
 pub overflow_cast-result : goal.overflow_cast-result
 overflow_cast-result c =
     let same : to_z w64 (of_z w64 c.args.n) ≡ c.args.n = to_z-of_z c.ranges.n in
-    let is-above : negsuc 0 -ℤ c.args.n ≡ pos (mag c.args.n) = above c.args.n (rw same at c.if-n-lt0.true) in
-    let fits-above : SFits w64 (pos (mag c.args.n)) = record { sfits = c.ranges.n.sfits } in
-    let same_above : to_z w64 (of_z w64 (pos (mag c.args.n))) ≡ pos (mag c.args.n) = to_z-of_z fits-above in
-    rw (same, is-above, same_above) (tt, record { fits = omega (arith, c.ranges.n.sfits) })
+    let is_above : negsuc 0 -ℤ c.args.n ≡ pos (mag c.args.n) = above c.args.n (rw same at c.if-n-lt0.true) in
+    let fits_above : SFits w64 (pos (mag c.args.n)) = record { sfits = c.ranges.n.sfits } in
+    let same_above : to_z w64 (of_z w64 (pos (mag c.args.n))) ≡ pos (mag c.args.n) = to_z-of_z fits_above in
+    rw (same, is_above, same_above) (tt, record { fits = omega (arith, c.ranges.n.sfits) })
 
 pub overflow_add-result : goal.overflow_add-result
 overflow_add-result c =
     let same : to_z w64 (of_z w64 c.args.n) ≡ c.args.n = to_z-of_z c.ranges.n in
-    let is-above : negsuc 0 -ℤ c.args.n ≡ pos (mag c.args.n) = above c.args.n (rw same at c.if-n-lt0.true) in
-    let fits-above : SFits w64 (pos (mag c.args.n)) = record { sfits = c.ranges.n.sfits } in
-    let same_above : to_z w64 (of_z w64 (pos (mag c.args.n))) ≡ pos (mag c.args.n) = to_z-of_z fits-above in
-    rw (same, is-above, same_above) (record { fits = omega (arith, c.ranges.n.sfits) })
+    let is_above : negsuc 0 -ℤ c.args.n ≡ pos (mag c.args.n) = above c.args.n (rw same at c.if-n-lt0.true) in
+    let fits_above : SFits w64 (pos (mag c.args.n)) = record { sfits = c.ranges.n.sfits } in
+    let same_above : to_z w64 (of_z w64 (pos (mag c.args.n))) ≡ pos (mag c.args.n) = to_z-of_z fits_above in
+    rw (same, is_above, same_above) (record { fits = omega (arith, c.ranges.n.sfits) })
 
 pub returns-then-n-lt0 : goal.returns-then-n-lt0
 returns-then-n-lt0 c =
     let same : to_z w64 (of_z w64 c.args.n) ≡ c.args.n = to_z-of_z c.ranges.n in
-    let is-above : negsuc 0 -ℤ c.args.n ≡ pos (mag c.args.n) = above c.args.n (rw same at c.if-n-lt0.true) in
-    let fits-above : SFits w64 (pos (mag c.args.n)) = record { sfits = c.ranges.n.sfits } in
-    let same_above : to_z w64 (of_z w64 (pos (mag c.args.n))) ≡ pos (mag c.args.n) = to_z-of_z fits-above in
-    rw (same, is-above, same_above) (below_size c.args.n (rw same at c.if-n-lt0.true))
+    let is_above : negsuc 0 -ℤ c.args.n ≡ pos (mag c.args.n) = above c.args.n (rw same at c.if-n-lt0.true) in
+    let fits_above : SFits w64 (pos (mag c.args.n)) = record { sfits = c.ranges.n.sfits } in
+    let same_above : to_z w64 (of_z w64 (pos (mag c.args.n))) ≡ pos (mag c.args.n) = to_z-of_z fits_above in
+    rw (same, is_above, same_above) (below_size c.args.n (rw same at c.if-n-lt0.true))
 
 pub overflow_cast-result-2 : goal.overflow_cast-result-2
 overflow_cast-result-2 c =

@@ -1,9 +1,8 @@
-use Prim.Native.Nat.{◌<◌, ◌-◌}
+use Prim.Native.Nat.{◌<◌}
 use native.Mathlib.Omega.{arith}
 use Rattle.sets.specs.Member.{width}
-use Rattle.text.specs.Room.{Laid}
 use Rattle.text.proofs.Lay.{none_laid, then}
-use Rattle.lines.proofs.Members.{rest_text, rest_step, rest_all, rest_none}
+use Rattle.lines.proofs.Members.{rest_step, rest_all, rest_none}
 use Rattle.lines.proofs.write.put_members.Goals as goal
 
 pub loop-k-init : goal.loop-k-init

@@ -15,7 +15,7 @@ returns-in-WentOn c = rw c.in-WentOn.is
     c.put_turn.ensures
 
 pub returns-in-Finished : goal.returns-in-Finished
-returns-in-Finished c =     let late = c.in-Finished.late in
+returns-in-Finished c = let late = c.in-Finished.late in
     let same : to_z w64 (of_z w64 late) ≡ late = search rules in
     let lays = then (then (then c.put_text-next.ensures c.put_signed-next.ensures) c.put_text-next-in-Finished.ensures) c.put_turn-in-Finished.ensures in
     rw c.in-Finished.is (rw same at lays)
