@@ -1,0 +1,8 @@
+-- `board::image::job_at` meets its contract: what stands at k behind a place stands at the place plus k.
+-- Assumes nothing.
+use Rattle.board.proofs.Parts.{row_read}
+use Rattle.board.proofs.image.job_at.Goals as goal
+
+pub returns : goal.returns
+returns c =
+    let start = c.before.before.before.before.before.before.before.before.before in row_read start.args.image.now start.args.at
