@@ -6,9 +6,7 @@ use Rattle.board.specs.Answer.{answer_of, check_answer}
 use Rattle.board.proofs.answer.of_finding.Goals as goal
 
 side_by_side : (said : CheckReply) → answer_of (number_in said) (place_in said) ≡ check_answer said
-
 side_by_side passes = refl
-
 side_by_side (says number place) = refl
 
 pub returns : goal.returns

@@ -7,7 +7,6 @@ use Rattle.board.specs.Answer.{answer_of, verdict_answer}
 use Rattle.board.proofs.answer.of_verdict.Goals as goal
 
 side_by_side : (said : VerdictReply) → answer_of (number_in said) (value_in said) ≡ verdict_answer said
-
 side_by_side (says number value) = refl
 
 pub returns : goal.returns

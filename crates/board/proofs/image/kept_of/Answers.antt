@@ -6,5 +6,5 @@ use Rattle.board.proofs.image.kept_of.Goals as goal
 pub returns : goal.returns
 unfolding decode
 returns c =
-    let rows = c.rows_of_lem.ensures in
+    let rows = c.rows_of-rows.ensures in
     simp (rows, decode)

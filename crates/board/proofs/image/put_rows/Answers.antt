@@ -1,4 +1,5 @@
-use Prim.Native.Nat.{◌-◌, ◌+◌, ◌*◌}
+-- `board::image::put_rows`, the goals: a row more in each turn (`row_more`), and at the end all of them (`rows_all`). Assumes nothing.
+use Prim.Native.Nat.{◌+◌, ◌*◌}
 use mathlib.Core.Path.{◌≡◌, ◌∙◌, ap}
 use mathlib.Core.List.{◌++◌}
 use native.Mathlib.Omega.{arith}
@@ -14,11 +15,13 @@ loop-i-init c =
     let start = c.before in (omega arith, start.requires, rows_none start.args.image.now start.args.rows)
 
 pub loop-i-preserved : goal.loop-i-preserved
-loop-i-preserved c =     let at-loop = c.loop-i in
+loop-i-preserved c =
+    let at-loop = c.loop-i in
     let called = c.put_job in
-    (omega arith, called.auto.0 ∙ at-loop.invariant.1, called.ensures ∙ ap (λ l. take (rows_at + row_size * at-loop.i) l ++ (job_cells (get_or c.args.rows at-loop.i no_job) ++ drop (rows_at + row_size * at-loop.i + row_size) l)) at-loop.invariant.2 ∙ row_more c.args.image.now c.args.rows at-loop.i c.requires c.well-formed.1.0.1.0.1 c.loop-i-test.true)
+    (omega arith, called.auto.image ∙ at-loop.invariant.1, called.ensures ∙ ap (λ l. take (rows_at + row_size * at-loop.i) l ++ (job_cells (get_or c.args.rows at-loop.i no_job) ++ drop (rows_at + row_size * at-loop.i + row_size) l)) at-loop.invariant.2 ∙ row_more c.args.image.now c.args.rows at-loop.i c.requires c.well_formed.1.0.1.0.1 c.loop-i-test.true)
 
 pub returns : goal.returns
-returns c =     let at-loop = c.loop-i in
+returns c =
+    let at-loop = c.loop-i in
     let end : at-loop.i ≡ most_tasks = omega arith in
-    at-loop.invariant.2 ∙ ap (rows_put c.args.image.now c.args.rows) end ∙ rows_all c.args.image.now c.args.rows c.requires c.well-formed.1.0.1.0.1
+    at-loop.invariant.2 ∙ ap (rows_put c.args.image.now c.args.rows) end ∙ rows_all c.args.image.now c.args.rows c.requires c.well_formed.1.0.1.0.1
