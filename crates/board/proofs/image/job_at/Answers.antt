@@ -4,5 +4,4 @@ use Rattle.board.proofs.Parts.{row_read}
 use Rattle.board.proofs.image.job_at.Goals as goal
 
 pub returns : goal.returns
-returns c =
-    let start = c.before.before.before.before.before.before.before.before.before in row_read start.args.image.now start.args.at
+returns c = row_read c.args.image.now c.args.at

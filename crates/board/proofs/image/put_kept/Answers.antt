@@ -4,5 +4,4 @@ use Rattle.board.proofs.Parts.{kept_put}
 use Rattle.board.proofs.image.put_kept.Goals as goal
 
 pub returns : goal.returns
-returns c =
-    let start = c.before.before.before.before.before.before.before.before in kept_put start.args.image.now _ start.args.kept start.requires c.put_rows.ensures
+returns c = kept_put c.args.image.now _ c.args.kept c.requires c.put_rows.ensures

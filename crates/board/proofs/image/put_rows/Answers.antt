@@ -11,8 +11,7 @@ use Rattle.board.proofs.Parts.{rows_put, rows_none, row_more, rows_all}
 use Rattle.board.proofs.image.put_rows.Goals as goal
 
 pub loop-i-init : goal.loop-i-init
-loop-i-init c =
-    let start = c.before in (omega arith, start.requires, rows_none start.args.image.now start.args.rows)
+loop-i-init c = (omega arith, c.requires, rows_none c.args.image.now c.args.rows)
 
 pub loop-i-preserved : goal.loop-i-preserved
 loop-i-preserved c =
