@@ -16,13 +16,12 @@ def squeeze(text):
 # ---- crates
 
 def crates(root):
-    """Each crate that crates.txt lists, with the crates that it uses."""
+    """Each crate that crates.txt lists, with the crates that it uses. Before the colon a line may say more of the crate, as `board_c staticlib: board`."""
     used = {}
     for line in read(os.path.join(root, "crates.txt")).split("\n"):
-        line = line.split("#")[0]
-        if ":" in line:
-            name, uses = line.split(":", 1)
-            used[name.strip()] = uses.split()
+        name, _, uses = line.split("#")[0].partition(":")
+        if name.strip():
+            used[name.split()[0]] = re.findall(r"[\w/-]+", uses)
     return used
 
 
@@ -42,9 +41,10 @@ def reached(used, names):
 
 
 def files(root, below, ending):
-    """The files under a folder of the repository, as paths from its top."""
+    """The files under a folder of the repository, as paths from its top, but for those that `rt` keeps in a crate's out/."""
     found = []
-    for folder, _, names in os.walk(os.path.join(root, below)):
+    for folder, inner, names in os.walk(os.path.join(root, below)):
+        inner[:] = [n for n in inner if not re.match(r"crates/[^/]+/out$", os.path.relpath(os.path.join(folder, n), root))]
         found += [os.path.relpath(os.path.join(folder, n), root) for n in names if n.endswith(ending)]
     return sorted(found)
 
@@ -99,7 +99,8 @@ def matching(text, at, left, right):
 
 
 class Function:
-    """A function: its whole name, file, line, whether it is public and for C, its clauses, and the lines of its head."""
+    """A function: its whole name, file, line, whether it is public and for C, its clauses (`requires` or `ensures`, the clause's own name or nothing, and what stands in braces), and
+    the lines of its head."""
 
 
 def functions(path, text=None):
@@ -158,7 +159,7 @@ def functions(path, text=None):
                 if n.group(1):
                     brace = plain.index("{", n.end())
                     place = matching(plain, brace, "{", "}")
-                    f.clauses.append((n.group(1), squeeze(text[n.end():place])))
+                    f.clauses.append((n.group(1), plain[n.end():brace].strip(), squeeze(text[brace:place])))
                 else:
                     break
             f.result = squeeze(plain[closing:result_end].replace("->", " "))

@@ -1,4 +1,4 @@
-//! The archive that a controller links (`rt staticlib board`, `include/lawqendo.h`), compared with the second program.
+//! The archive that a controller links (`.ci/archive`, `include/lawqendo.h`), compared with the second program.
 //!
 //! The dispatcher is proved, and the second program is written apart from it. What no proof covers is what lies between the
 //! proved functions and a controller: the compiler's back end, the header, the way an image is laid out. So the

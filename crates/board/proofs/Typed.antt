@@ -1,9 +1,9 @@
 -- Every state of the program is `TypedState`: the relation between a value and its machine words, which the types of the fields give, says how long its lists are and
 -- that its fields of 32 bits hold no more. Assumes nothing.
 use Prim.Native.Nat.{ℕ}
-use mathlib.Core.Path.{◌≡◌, sym, subst, ◌∙◌}
-use mathlib.Core.List.{List, [], ◌∷◌, map, map-id}
-use lib.ListN.{length, length-map}
+use mathlib.Core.Path.{◌≡◌}
+use mathlib.Core.List.{List, [], ◌∷◌}
+use lib.ListN.{length}
 use mir.Val.{Val}
 use denote.Shadow.{shadow}
 use denote.Array.{each}
@@ -26,17 +26,14 @@ use Rattle.numbers.specs.Each.{Each}
 use Rattle.board.specs.Image.{Half, TypedJob, TypedState}
 
 pub job_typed : (j : Job) (vs : List Val) → Is (row job.the_type) j vs → TypedJob j
-job_typed j vs p = record {
-  place_half = p.1.1.1.1.1.0.1;
-  four_saved = sym (length-map j.saved (λ v. v)) ∙ p.1.1.1.1.1.1.0.1.0.1;
-}
+job_typed j vs p = record { place_half = p.1.1.1.1.1.0.1; four_saved = p.1.1.1.1.1.1.0.1.0.1 }
 
 pub words_half_of : (xs : List ℕ) (us : List Val) → shadow (each ℕ u32-field.row.own_val xs us) → Each Half xs
 words_half_of [] us p = tt
 words_half_of (x ∷ xs) [] p = absurd p
 words_half_of (x ∷ xs) (u ∷ us) p = (p.0.1, words_half_of xs us p.1)
 
-rows_typed_of : (xs : List Job) (us : List Val) → shadow (each (job.the_field).row.Denot (job.the_field).row.own_val (map (job.the_type).to xs) us) → Each TypedJob xs
+rows_typed_of : (xs : List Job) (us : List Val) → shadow (each (job.the_row).Denot (job.the_row).own_val xs us) → Each TypedJob xs
 rows_typed_of [] us p = tt
 rows_typed_of (x ∷ xs) [] p = absurd p
 rows_typed_of (x ∷ xs) (u ∷ us) p = (job_typed x (u ∷ []) p.0, rows_typed_of xs us p.1)
@@ -49,14 +46,12 @@ parts_typed words used kept vs all halves p = record {
   words_half = halves;
   ready_half = p.1.1.1.1.0.1;
   had_half = p.1.1.1.1.1.0.1;
-  all_rows = sym (length-map kept.rows (job.the_type).to) ∙ p.1.1.1.1.1.1.0.1.0.1;
+  all_rows = p.1.1.1.1.1.1.0.1.0.1;
   rows_typed = rows_typed_of kept.rows p.1.1.1.1.1.1.0.0 p.1.1.1.1.1.1.0.1.1;
 }
 
 pub state_typed : (s : State) (vs : List Val) → Is (row state.the_type) s vs → TypedState s
-state_typed s vs p =
-    parts_typed s.words s.length s.kept p.0.1.1.0
-    (sym (length-map s.words (λ v. v)) ∙ p.1.1.0.1.0.1) (subst (Each Half) (map-id s.words) (words_half_of (map (λ x. x) s.words) p.1.1.0.0 p.1.1.0.1.1)) p.1.1.1.1.0
+state_typed s vs p = parts_typed s.words s.length s.kept p.0.1.1.0 p.1.1.0.1.0.1 (words_half_of s.words p.1.1.0.0 p.1.1.0.1.1) p.1.1.1.1.0
 
 -- What an event hands back, with the words that it was lent.
 pub outcome_typed : (words : List ℕ) (used : ℕ) (out : Outcome) (vs : List Val) → length words ≡ room → Each Half words → Is (row outcome.the_type) out vs →

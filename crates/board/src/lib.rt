@@ -1,5 +1,5 @@
 // What a controller links: the check, the start, the two events and the verdict, as C functions over numbers, a slice and two arrays of fixed length. A state travels as
-// its image and an answer as five numbers; nothing is kept between calls and nothing is allocated.
+// its image and an answer as five numbers; nothing is kept between calls and nothing is allocated. A library exports nothing to C: crate `board_c` exports these by their names.
 #![tactic(auto)]
 
 mod answer;
@@ -10,7 +10,7 @@ mod places;
 ghost use Rattle.std.specs.Prelude.{◌≡◌};
 ghost use Rattle.board.specs.Calls.{first_number, found_answer, judged_answer, release_answer, step_answer, start_answer, ReleaseLeaves, StepLeaves, StartLeaves};
 
-use places::{ANSWER, IMAGE};
+pub use places::{ANSWER, IMAGE};
 
 // The check of a list of words: 0, or a refusal's number and its place.
 #[unsafe(no_mangle)]

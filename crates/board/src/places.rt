@@ -28,10 +28,10 @@ pub(crate) const LAST_AT: usize = SAVED_AT + MOST_HELD;
 pub(crate) const ROW_SIZE: usize = LAST_AT + 1;
 
 // How many numbers an image has.
-pub(crate) const IMAGE: usize = ROWS_AT + TASKS * ROW_SIZE;
+pub const IMAGE: usize = ROWS_AT + TASKS * ROW_SIZE;
 
 // How many numbers an answer has.
-pub(crate) const ANSWER: usize = 5;
+pub const ANSWER: usize = 5;
 
 // How many numbers 32 bits tell apart: a number of 64 bits holds two words, and this is the step from the low half to the high one.
 pub(crate) const HALF: u64 = 1 << 32;

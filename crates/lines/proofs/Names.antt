@@ -3,23 +3,20 @@ use mathlib.Core.Path.{◌≡◌, refl, sym}
 use mathlib.Core.List.{List, [], ◌∷◌}
 use Prim.Native.Nat.{ℕ}
 use borrow.Author.Tests.{ne_eqb}
-use types.Run.{OneOf}
-use denote.Enum.Declared
 use Rattle.numbers.specs.Answers.{Named, answers, name_in, name_of}
 use Rattle.table.specs.Said.{said_of, number_in, place_in}
 use Rattle.table.specs.declared.Finding.{Finding}
 use Rattle.table.specs.declared.Finding.TheVariants.{Sound, Short, Count, Range, Step, Nest, Crowded}
-use Rattle.table.specs.contracts.Finding
-use Rattle.table.proofs.Findings.{others, not_sound_lem, refusal}
+use Rattle.table.proofs.Findings.{refusal}
 use Rattle.verdict.specs.Said.{refusal_said}
 use Rattle.text.specs.Bytes.{bytes}
 use Rattle.lines.specs.Lines.{placed_text, finding_text, verdict_text}
 
 -- The code's test tells a sound finding from the others.
-pub finding_refused : (passes : List ℕ) (f : Finding) → OneOf others (Declared.tag_of Finding.the_type f) →
+pub finding_refused : (passes : List ℕ) (f : Finding) → (f ≡ Sound → ⊥) →
     finding_text passes (said_of f) ≡ placed_text (number_in (said_of f)) (place_in (said_of f))
 finding_refused passes f told =
-    let r = refusal f (not_sound_lem f told) in
+    let r = refusal f told in
     rw r.said
 
 -- A verdict that refuses says what the check says.

@@ -1,5 +1,5 @@
 -- What lies on which side of 0: a number below 0 is `negsuc`, and -1 less that number is how far it is below -1. Assumes nothing.
-use Prim.Native.Nat.{ℕ, zero, suc, ◌+◌}
+use Prim.Native.Nat.{suc, ◌+◌}
 use mathlib.Core.Path.{◌≡◌, refl, ap}
 use mathlib.Core.Bool.{true, false, true≢false}
 use mathlib.Core.List.{[], ◌∷◌, ◌++◌}

@@ -1,13 +1,13 @@
 -- What is read at the front of some words is at most what it may be. Assumes nothing.
 use Prim.Native.Nat.{ℕ, ◌≤◌}
-use mathlib.Core.Path.{◌≡◌, refl, sym}
+use mathlib.Core.Path.{◌≡◌, refl}
 use mathlib.Core.Bool.{Bool, true, false, cond}
 use mathlib.Core.List.{List, [], ◌∷◌}
 use native.Mathlib.Omega.{arith}
 use borrow.Author.Tests.{leb-true}
 use lib.Dec.{leb}
-use Rattle.script.specs.Number.{digits_only, value_of, bounded, number_said}
-use Rattle.script.specs.Grammar.{Front, got, bad, front_of, number_first}
+use Rattle.script.specs.Number.{digits_only, value_of, number_said}
+use Rattle.script.specs.Grammar.{got, front_of, number_first}
 use Rattle.script.specs.declared.Number.{Number}
 use Rattle.script.specs.declared.Number.TheVariants.{Value, Amiss}
 use Rattle.text.specs.declared.Fault.TheVariants.{Malformed, Large}

@@ -1,20 +1,17 @@
 -- What a line says, by its length and its words. Assumes nothing.
 use Prim.Native.Nat.{ℕ, ◌≤◌, ◌<◌}
 use mathlib.Core.Path.{◌≡◌, refl, sym, ap, ◌∙◌}
-use mathlib.Core.Bool.{Bool, true, false, cond}
-use mathlib.Core.List.{List, [], ◌∷◌}
+use mathlib.Core.Bool.{Bool, true, false}
+use mathlib.Core.List.{List, []}
 use native.Mathlib.Omega.{arith}
 use borrow.Author.Tests.{lt-ltb, le-ltb, ltb-true, ltb-false}
-use types.Run.{OneOf, miss}
-use denote.Enum.Declared
 use lib.Dec.{ltb}
 use lib.ListN.{length}
 use Rattle.script.specs.Words.{line_words}
-use Rattle.script.specs.Grammar.{most_bytes, command_in, command_of, numbers_in, numbers_for, numbers_behind, table_of}
+use Rattle.script.specs.Grammar.{most_bytes, command_in, command_of, numbers_in, numbers_for, table_of}
 use Rattle.script.specs.Cursor.{words_from, Spans}
 use Rattle.script.proofs.Words.{from_start, spans_word, spans_none}
 use Rattle.script.specs.declared.Command.{Command}
-use Rattle.script.specs.contracts.Command
 use Rattle.script.specs.declared.Command.TheVariants.{Nothing, Table, Check, Start, Release, Step, Verdict, Show, Wrong}
 use Rattle.text.specs.declared.Fault.TheVariants.{TooLong}
 
@@ -26,25 +23,21 @@ pub command_short : (line : List ℕ) (ws : List (List ℕ)) → length line ≤
 unfolding command_of
 command_short line ws h e = rw (le-ltb most_bytes (length line) h) (ap command_in (sym (from_start line) ∙ e))
 
--- The words that a line lends: those behind its first one if it is a table, else none. The code's test tells a table from the other cases.
-abbrev others : List ℕ
-others = 0 ∷ 2 ∷ 3 ∷ 4 ∷ 5 ∷ 6 ∷ 7 ∷ 8 ∷ []
+-- The words that a line lends: those behind its first one if it is a table, else none. The code's default arm says that the command is no table.
+for_other : (command : Command) (ws : List (List ℕ)) → ((count : ℕ) → command ≡ Table count → ⊥) → numbers_for command ws ≡ []
+for_other Nothing ws other = refl
+for_other (Table count) ws other = absurd (other count refl)
+for_other Check ws other = refl
+for_other Start ws other = refl
+for_other (Release i t) ws other = refl
+for_other (Step t) ws other = refl
+for_other Verdict ws other = refl
+for_other Show ws other = refl
+for_other (Wrong fault) ws other = refl
 
-for_other : (command : Command) (ws : List (List ℕ)) → OneOf others (Declared.tag_of Command.the_type command) → numbers_for command ws ≡ []
-for_other Nothing ws told = refl
-for_other (Table count) ws told = absurd (miss others 1 tt told)
-for_other Check ws told = refl
-for_other Start ws told = refl
-for_other (Release i t) ws told = refl
-for_other (Step t) ws told = refl
-for_other Verdict ws told = refl
-for_other Show ws told = refl
-for_other (Wrong fault) ws told = refl
-
-pub lends_other : (line : List ℕ) (command : Command) → command ≡ command_of line → OneOf others (Declared.tag_of Command.the_type command) →
-    table_of line ≡ []
+pub lends_other : (line : List ℕ) (command : Command) → command ≡ command_of line → ((count : ℕ) → command ≡ Table count → ⊥) → table_of line ≡ []
 unfolding table_of
-lends_other line command e told = rw (← e) (for_other command (line_words line) told)
+lends_other line command e other = rw (← e) (for_other command (line_words line) other)
 
 -- A table has a first word.
 pub lends_words : (line : List ℕ) (from to count : ℕ) → command_of line ≡ Table count → Spans line 0 from to → table_of line ≡ numbers_in (words_from line to)

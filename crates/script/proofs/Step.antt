@@ -1,12 +1,12 @@
 -- What one step through a table's words says of the whole: of the count, and of the numbers. By the cases of the first word. Assumes nothing.
-use Prim.Native.Nat.{ℕ, suc, ◌+◌}
+use Prim.Native.Nat.{ℕ, ◌+◌}
 use mathlib.Core.Path.{◌≡◌, refl}
 use mathlib.Core.Bool.{Bool, true, false, cond}
 use mathlib.Core.List.{List, [], ◌∷◌}
 use native.Mathlib.Numerals.{add-one}
 use Rattle.script.specs.Signs.{same}
 use Rattle.script.specs.Number.{number_said}
-use Rattle.script.specs.Grammar.{most_word, slash, number_then, numbers_in, table_then, table_said}
+use Rattle.script.specs.Grammar.{most_word, slash, numbers_in, table_said}
 use Rattle.script.specs.Cursor.{Stepped, over, nothing, word, amiss, stepped_by, stepped}
 use Rattle.script.specs.declared.Number.{Number}
 use Rattle.script.specs.declared.Number.TheVariants.{Value, Amiss}

@@ -11,7 +11,7 @@ use lib.Dec.{ltb, eqb}
 use lib.ListN.{length, take, drop, get_or, length-drop, drop_of_length-le}
 use lib.Seq.{drop-cons, drop-drop}
 use Rattle.script.specs.Signs.{blank, hash}
-use Rattle.script.specs.Words.{cut, joined, before, split, line_words}
+use Rattle.script.specs.Words.{cut, joined, split, line_words}
 use Rattle.script.specs.Cursor.{words_from, lead, in_word, Spans}
 
 -- How far a test holds from a place on.

@@ -1,6 +1,6 @@
 -- How the code goes over a line: by places in it. Each definition says what an answer with places in it means for the words of the line. No public call's
 -- promise needs this page. Assumes nothing.
-use Rattle.std.specs.Prelude.{ℕ, zero, suc, ◌-◌, ◌≤◌, ◌<◌, ◌≡◌, Bool, true, false, not, cond, ◌||◌, List, [], ◌∷◌, ltb, eqb, length, take, drop}
+use Rattle.std.specs.Prelude.{ℕ, suc, ◌-◌, ◌≤◌, ◌<◌, ◌≡◌, Bool, not, cond, ◌||◌, List, [], ◌∷◌, ltb, eqb, length, take, drop}
 use Rattle.script.specs.Signs.{blank, hash, same}
 use Rattle.script.specs.Number.{number_said}
 use Rattle.script.specs.Words.{line_words}

