@@ -5,7 +5,6 @@ use Rattle.table.specs.Limits.{room}
 use Rattle.table.specs.Said.{check_said}
 use Rattle.verdict.specs.Verdict.{verdict_of}
 use Rattle.dispatch.specs.State.{zero_state}
-use Rattle.dispatch.specs.Heard.{Heard, Begun}
 use Rattle.dispatch.specs.Dispatch.{start_of, release_of, step_of}
 use Rattle.dispatch.specs.declared.State.{State}
 use Rattle.text.specs.Bytes.{bytes}

@@ -8,7 +8,7 @@ use Rattle.table.specs.Map.{table_at, map_of, next_of}
 use Rattle.table.specs.Limits.{most_tasks}
 use Rattle.table.specs.declared.Next.{Next}
 use Rattle.table.specs.declared.Next.TheVariants as next
-use Rattle.machine.specs.Order.{no_job, row_of}
+use Rattle.machine.specs.Order.{row_of}
 use Rattle.machine.specs.declared.Job.{Job}
 use Rattle.machine.specs.declared.Kept.{Kept}
 use Rattle.dispatch.specs.State.{words_in}
