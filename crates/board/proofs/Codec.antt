@@ -92,7 +92,7 @@ decode_encode s whole =
     ap unpacked (take_at front back length_at all) ∙ unpacked_packed length_at s.words whole.all_words whole.words_half in
     let ready_back : low (get_or (front ++ back) ready_at 0) ≡ s.kept.ready =
     ap low (behind_at front back length_at 3 all) ∙ low_half s.kept.ready whole.ready_half in
-    let had-back : low (get_or (front ++ back) had_at 0) ≡ s.kept.had =
+    let had_back : low (get_or (front ++ back) had_at 0) ≡ s.kept.had =
     ap low (behind_at front back length_at 4 all) ∙ low_half s.kept.had whole.had_half in
     let rows_back : jobs_in most_tasks (drop rows_at (front ++ back)) ≡ s.kept.rows =
     ap (jobs_in most_tasks) (behind_drop front back length_at 5 all)
@@ -105,7 +105,7 @@ decode_encode s whole =
         clock = behind_at front back length_at 1 all i;
         count = behind_at front back length_at 2 all i;
         ready = ready_back i;
-        had = had-back i;
+        had = had_back i;
         rows = rows_back i;
       };
     }

@@ -82,10 +82,10 @@ pub event_left : (image l numbers : List ℕ) (out : dispatch.Outcome) (heard : 
     numbers ≡ event_answer (reply_said out.reply) →
     (l ≡ image_heard image heard) × (numbers ≡ event_answer heard.said) × (decode l ≡ heard.state)
 event_left image l numbers out heard size e kept whole left said =
-    let whole-heard : TypedState heard.state = subst (λ (h : Heard). TypedState h.state) e whole in
-    let kept-left : l ≡ image_heard image heard =
+    let whole_heard : TypedState heard.state = subst (λ (h : Heard). TypedState h.state) e whole in
+    let kept_left : l ≡ image_heard image heard =
     left_in_image image l heard size kept (left ∙ ap (λ (h : Heard). image_after image (take clock_at image ++ kept_cells h.state.kept) h.said) e) in
-    (kept-left, said ∙ ap (λ (h : Heard). event_answer h.said) e, ap decode kept-left ∙ read_after image heard whole-heard kept)
+    (kept_left, said ∙ ap (λ (h : Heard). event_answer h.said) e, ap decode kept_left ∙ read_after image heard whole_heard kept)
 
 -- The parts that are read from an image are those of the state that it is.
 pub decoded_parts : (image words : List ℕ) (kept : Kept) → words ≡ unpacked (take length_at image) → kept ≡ (decode image).kept →

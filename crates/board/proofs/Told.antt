@@ -76,9 +76,9 @@ told_apart (finished late t) (refused m) p q e = absurd (omega (arith, sym (firs
 told_apart (finished late t) (went_on u) p q e =
     absurd (omega (arith, sym (first FINISHED (bits_of late) t) ∙ at 0 e ∙ first ACCEPTED 0 u))
 told_apart (finished late t) (finished later u) p q e =
-    let same-late : late ≡ later =
+    let same_late : late ≡ later =
     bits_apart late later p q (sym (second FINISHED (bits_of late) t) ∙ at 1 e ∙ second FINISHED (bits_of later) u) in
-    λ i. finished (same-late i) (turn_apart FINISHED (bits_of late) (bits_of later) t u e i)
+    λ i. finished (same_late i) (turn_apart FINISHED (bits_of late) (bits_of later) t u e i)
 
 -- The check's answers, whose numbers are not 0, and the verdict's.
 abbrev pub Numbered : table.CheckReply → Type 0

@@ -2,7 +2,7 @@
 use Prim.Native.Nat.{ℕ, min, max}
 use mathlib.Core.Path.{◌≡◌, refl, ap, sym, ◌∙◌}
 use mathlib.Core.List.{List}
-use Rattle.sets.specs.Member.{width, has, with_of, without_of, size_of}
+use Rattle.sets.specs.Member.{width, wide, has, with_of, without_of, size_of}
 use lib.ListN.{length}
 use Rattle.table.specs.Limits.{most_tasks}
 use Rattle.table.specs.Table.{Table, task_of}
@@ -65,6 +65,9 @@ has_pinned set k = pinned_plain (has set k)
 
 pub with_pinned : (set k : ℕ) → Pinned itself (with_of width set k)
 with_pinned set k = pinned_plain (with_of width set k)
+
+pub with_u64_pinned : (set k : ℕ) → Pinned itself (with_of wide set k)
+with_u64_pinned set k = pinned_plain (with_of wide set k)
 
 pub without_pinned : (set k : ℕ) → Pinned itself (without_of width set k)
 without_pinned set k = pinned_plain (without_of width set k)

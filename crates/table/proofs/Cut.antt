@@ -61,15 +61,15 @@ module _ (k : ℕ) (ws vs : List ℕ) (long : k ≤ length ws) (far : k ≤ leng
   unfolding task_in
   task_same m at h =
       then_same (word_in RANGE 1 most_ticks ws at) (word_in RANGE 1 most_ticks vs at) (after_t m ws) (after_t m vs) (word_same RANGE 1 most_ticks at (omega arith))
-      (λ t at₁ e₁. let t-got = word_got RANGE 1 most_ticks vs at e₁ in
-      then_same (word_in RANGE 1 most_ticks ws at₁) (word_in RANGE 1 most_ticks vs at₁) (after_d m ws t) (after_d m vs t) (word_same RANGE 1 most_ticks at₁ (omega (arith, t-got.place)))
-      (λ d at₂ e₂. let d-got = word_got RANGE 1 most_ticks vs at₁ e₂ in
-      then_same (word_in RANGE 1 most_ticks ws at₂) (word_in RANGE 1 most_ticks vs at₂) (after_c m ws t d) (after_c m vs t d) (word_same RANGE 1 most_ticks at₂ (omega (arith, t-got.place, d-got.place)))
-      (λ c at₃ e₃. let c-got = word_got RANGE 1 most_ticks vs at₂ e₃ in
-      then_same (word_in COUNT 0 most_steps ws at₃) (word_in COUNT 0 most_steps vs at₃) (after_s m ws t d c) (after_s m vs t d c) (word_same COUNT 0 most_steps at₃ (omega (arith, t-got.place, d-got.place, c-got.place)))
-      (λ s at₄ e₄. let s-got = word_got COUNT 0 most_steps vs at₃ e₄ in
+      (λ t at₁ e₁. let t_got = word_got RANGE 1 most_ticks vs at e₁ in
+      then_same (word_in RANGE 1 most_ticks ws at₁) (word_in RANGE 1 most_ticks vs at₁) (after_d m ws t) (after_d m vs t) (word_same RANGE 1 most_ticks at₁ (omega (arith, t_got.place)))
+      (λ d at₂ e₂. let d_got = word_got RANGE 1 most_ticks vs at₁ e₂ in
+      then_same (word_in RANGE 1 most_ticks ws at₂) (word_in RANGE 1 most_ticks vs at₂) (after_c m ws t d) (after_c m vs t d) (word_same RANGE 1 most_ticks at₂ (omega (arith, t_got.place, d_got.place)))
+      (λ c at₃ e₃. let c_got = word_got RANGE 1 most_ticks vs at₂ e₃ in
+      then_same (word_in COUNT 0 most_steps ws at₃) (word_in COUNT 0 most_steps vs at₃) (after_s m ws t d c) (after_s m vs t d c) (word_same COUNT 0 most_steps at₃ (omega (arith, t_got.place, d_got.place, c_got.place)))
+      (λ s at₄ e₄. let s_got = word_got COUNT 0 most_steps vs at₃ e₄ in
       ap (λ (r : Read (List Step)). r and_then after_plan t d c)
-      (plan_same s m c [] (c ∷ []) at₄ (omega (arith, t-got.place, d-got.place, c-got.place, s-got.place, s-got.high)))))))
+      (plan_same s m c [] (c ∷ []) at₄ (omega (arith, t_got.place, d_got.place, c_got.place, s_got.place, s_got.high)))))))
 
   tasks_same : (left m at : ℕ) → at + left * (at_plan + most_steps * step_size) ≤ k → tasks_in left m ws at ≡ tasks_in left m vs at
   unfolding tasks_in
@@ -85,11 +85,11 @@ module _ (k : ℕ) (ws vs : List ℕ) (long : k ≤ length ws) (far : k ≤ leng
   table_same : room ≤ k → table_read ws ≡ table_read vs
   table_same h =
       then_same (word_in COUNT 1 most_tasks ws 0) (word_in COUNT 1 most_tasks vs 0) (after_n ws) (after_n vs) (word_same COUNT 1 most_tasks 0 (omega arith))
-      (λ n at₁ e₁. let n-got = word_got COUNT 1 most_tasks vs 0 e₁ in
-      then_same (word_in COUNT 0 most_resources ws at₁) (word_in COUNT 0 most_resources vs at₁) (after_m ws n) (after_m vs n) (word_same COUNT 0 most_resources at₁ (omega (arith, n-got.place)))
-      (λ m at₂ e₂. let m-got = word_got COUNT 0 most_resources vs at₁ e₂ in
+      (λ n at₁ e₁. let n_got = word_got COUNT 1 most_tasks vs 0 e₁ in
+      then_same (word_in COUNT 0 most_resources ws at₁) (word_in COUNT 0 most_resources vs at₁) (after_m ws n) (after_m vs n) (word_same COUNT 0 most_resources at₁ (omega (arith, n_got.place)))
+      (λ m at₂ e₂. let m_got = word_got COUNT 0 most_resources vs at₁ e₂ in
       ap (λ (r : Read (List Task)). r and_then after_tasks m)
-      (tasks_same n m at₂ (omega (arith, n-got.place, n-got.high, m-got.place)))))
+      (tasks_same n m at₂ (omega (arith, n_got.place, n_got.high, m_got.place)))))
 
 -- No table is read behind `room`.
 table_most : (ws : List ℕ) {t : Table} {end : ℕ} → table_read ws ≡ got t end → end ≤ room
@@ -98,10 +98,10 @@ table_most ws {t} {end} e =
     (λ n at₁ e₁ f₁. both (word_in COUNT 0 most_resources ws at₁) (after_m ws n) f₁
     (λ m at₂ e₂ f₂. both (tasks_in n m ws at₂) (after_tasks m) f₂
     (λ tasks last e₃ f₃.
-    let n-got = word_got COUNT 1 most_tasks ws 0 e₁ in
-    let m-got = word_got COUNT 0 most_resources ws at₁ e₂ in
+    let n_got = word_got COUNT 1 most_tasks ws 0 e₁ in
+    let m_got = word_got COUNT 0 most_resources ws at₁ e₂ in
     let same : last ≡ end = got_place f₃ in
-    omega (arith, same, n-got.place, n-got.high, m-got.place, (tasks_got n m ws at₂ e₃).most))))
+    omega (arith, same, n_got.place, n_got.high, m_got.place, (tasks_got n m ws at₂ e₃).most))))
 
 pub read_cut : (ws : List ℕ) → check_of (take (room + 1) ws) ≡ check_of ws
 unfolding check_of

@@ -58,13 +58,13 @@ after_n ws n at₁ = word_in COUNT 0 most_resources ws at₁ and_then after_m ws
 passed_from : {ws : List ℕ} {t : Table} {n at₁ m at₂ end : ℕ} → Word 1 most_tasks ws 0 n at₁ → Word 0 most_resources ws at₁ m at₂ →
     TasksGot n m ws at₂ t.tasks end → m ≡ t.resources → Passed ws t end
 passed_from {ws} {t} {n} {at₁} {m} {at₂} {end} wn wm ts same =
-    let n-same : n ≡ tasks_of t = sym ts.count in
+    let n_same : n ≡ tasks_of t = sym ts.count in
     let first : at₁ ≡ 1 = wn.place in
     let second : at₂ ≡ at_tasks = omega (arith, wn.place, wm.place) in
-    let named : TasksGot (tasks_of t) t.resources ws at₂ t.tasks end = subst₂ (λ (x y : ℕ). TasksGot x y ws at₂ t.tasks end) n-same same ts in
+    let named : TasksGot (tasks_of t) t.resources ws at₂ t.tasks end = subst₂ (λ (x y : ℕ). TasksGot x y ws at₂ t.tasks end) n_same same ts in
     let placed : Word 0 most_resources ws 1 m at_tasks = subst₂ (λ (x y : ℕ). Word 0 most_resources ws x m y) first second wm in
     record {
-      count = subst₂ (λ (x y : ℕ). Word 1 most_tasks ws 0 x y) n-same first wn;
+      count = subst₂ (λ (x y : ℕ). Word 1 most_tasks ws 0 x y) n_same first wn;
       resources = subst (λ (x : ℕ). Word 0 most_resources ws 1 x at_tasks) same placed;
       tasks = subst (λ (x : ℕ). TasksGot (tasks_of t) t.resources ws x t.tasks end) second named;
     }

@@ -267,17 +267,17 @@ task_of_lem {m} {ws} {at} {t} {at₁} {d} {at₂} {c} {at₃} {s} {at₄} {plan}
     let third : at₂ ≡ at + at_cost = omega (arith, wt.place, wd.place) in
     let fourth : at₃ ≡ at + at_steps = omega (arith, wt.place, wd.place, wc.place) in
     let fifth : at₄ ≡ at + at_plan = omega (arith, wt.place, wd.place, wc.place, wn.place) in
-    let t-value : t ≡ get_or ws (at + at_period) 0 = wt.value ∙ ap (λ (i : ℕ). get_or ws i 0) first in
+    let t_value : t ≡ get_or ws (at + at_period) 0 = wt.value ∙ ap (λ (i : ℕ). get_or ws i 0) first in
     let count : s ≡ get_or ws (at + at_steps) 0 = wn.value ∙ ap (λ (i : ℕ). get_or ws i 0) fourth in
     let few : s ≤ most_steps = wn.high in
     let steps : s ≡ min (get_or ws (at + at_steps) 0) most_steps = omega arith in
-    let d-value : d ≡ get_or ws (at + at_deadline) 0 = wd.value ∙ ap (λ (i : ℕ). get_or ws i 0) second in
-    let c-value : c ≡ get_or ws (at + at_cost) 0 = wc.value ∙ ap (λ (i : ℕ). get_or ws i 0) third in
-    let plan-value : plan ≡ steps_at (min (get_or ws (at + at_steps) 0) most_steps) ws (at + at_plan) =
+    let d_value : d ≡ get_or ws (at + at_deadline) 0 = wd.value ∙ ap (λ (i : ℕ). get_or ws i 0) second in
+    let c_value : c ≡ get_or ws (at + at_cost) 0 = wc.value ∙ ap (λ (i : ℕ). get_or ws i 0) third in
+    let plan_value : plan ≡ steps_at (min (get_or ws (at + at_steps) 0) most_steps) ws (at + at_plan) =
     p.value ∙ ap₂ (λ (n i : ℕ). steps_at n ws i) steps fifth
     in
     record {
-      value = λ i. record { T = t-value i; D = d-value i; C = c-value i; plan = plan-value i };
+      value = λ i. record { T = t_value i; D = d_value i; C = c_value i; plan = plan_value i };
       place = omega arith;
       there = p.there (omega arith);
       most = omega arith;

@@ -139,8 +139,8 @@ pub lock_locks : (plan : List Step) (k : ℕ) {r l : ℕ} → next_of plan k ≡
 unfolding next_of locksIn
 lock_locks [] k e = never (cc)
 lock_locks (lock q j ∷ plan) zero {r} {l} e =
-    let q-r : q ≡ r = cc in
-    rw (eq-eqb q r q-r)
+    let q_r : q ≡ r = cc in
+    rw (eq-eqb q r q_r)
 lock_locks (unlock ∷ plan) zero e = never (cc)
 lock_locks (s ∷ plan) (suc k) {r} {l} e = or_right (step_locks s r) (locksIn plan r) (lock_locks plan k e)
 

@@ -1,4 +1,4 @@
--- `multipleOf a b` is the least common multiple of two positive numbers, and P, `multiple table`, that of all the periods of a table, of any
+-- `multiple_of a b` is the least common multiple of two positive numbers, and P, `multiple table`, that of all the periods of a table, of any
 -- number of them: every T divides it, it divides every common multiple, and it is positive. And the early stop is right: what is
 -- reached on the way divides what comes in the end, so once it has passed a limit P has.
 -- The idea, for two: L = a / g * b with g their greatest common divisor. Of a common multiple m take d, the greatest common divisor of m and L.

@@ -15,12 +15,12 @@ loop-i-init c = (omega arith, c.requires, rows_none c.args.image.now c.args.rows
 
 pub loop-i-preserved : goal.loop-i-preserved
 loop-i-preserved c =
-    let at-loop = c.loop-i in
+    let at_loop = c.loop-i in
     let called = c.put_job in
-    (omega arith, called.auto.image ∙ at-loop.invariant.1, called.ensures ∙ ap (λ l. take (rows_at + row_size * at-loop.i) l ++ (job_cells (get_or c.args.rows at-loop.i no_job) ++ drop (rows_at + row_size * at-loop.i + row_size) l)) at-loop.invariant.2 ∙ row_more c.args.image.now c.args.rows at-loop.i c.requires c.well_formed.1.0.1.0.1 c.loop-i-test.true)
+    (omega arith, called.auto.image ∙ at_loop.invariant.1, called.ensures ∙ ap (λ l. take (rows_at + row_size * at_loop.i) l ++ (job_cells (get_or c.args.rows at_loop.i no_job) ++ drop (rows_at + row_size * at_loop.i + row_size) l)) at_loop.invariant.2 ∙ row_more c.args.image.now c.args.rows at_loop.i c.requires c.well_formed.1.0.1.0.1 c.loop-i-test.true)
 
 pub returns : goal.returns
 returns c =
-    let at-loop = c.loop-i in
-    let end : at-loop.i ≡ most_tasks = omega arith in
-    at-loop.invariant.2 ∙ ap (rows_put c.args.image.now c.args.rows) end ∙ rows_all c.args.image.now c.args.rows c.requires c.well_formed.1.0.1.0.1
+    let at_loop = c.loop-i in
+    let end : at_loop.i ≡ most_tasks = omega arith in
+    at_loop.invariant.2 ∙ ap (rows_put c.args.image.now c.args.rows) end ∙ rows_all c.args.image.now c.args.rows c.requires c.well_formed.1.0.1.0.1

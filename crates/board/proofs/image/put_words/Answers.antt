@@ -10,10 +10,10 @@ loop-k-init c = (omega arith, c.requires.0, refl)
 
 pub loop-k-preserved : goal.loop-k-preserved
 loop-k-preserved c =
-    let at-loop = c.loop-k in
-    (omega arith, simp length-set at-loop.invariant.1, pair_more c.args.image.now c.args.words.now c.requires.0 c.requires.1 at-loop.image at-loop.k c.loop-k-test.true at-loop.invariant.2)
+    let at_loop = c.loop-k in
+    (omega arith, simp length-set at_loop.invariant.1, pair_more c.args.image.now c.args.words.now c.requires.0 c.requires.1 at_loop.image at_loop.k c.loop-k-test.true at_loop.invariant.2)
 
 pub returns : goal.returns
 returns c =
-    let at-loop = c.loop-k in
-    pairs_all c.args.image.now c.args.words.now c.requires.0 c.requires.1 at-loop.image at-loop.k c.loop-k-test.false at-loop.invariant.0 at-loop.invariant.2
+    let at_loop = c.loop-k in
+    pairs_all c.args.image.now c.args.words.now c.requires.0 c.requires.1 at_loop.image at_loop.k c.loop-k-test.false at_loop.invariant.0 at_loop.invariant.2

@@ -9,10 +9,10 @@ pub loop-i-init : goal.loop-i-init
 loop-i-init c = (omega arith, refl)
 
 pub loop-i-preserved : goal.loop-i-preserved
-loop-i-preserved c = let at-loop = c.loop-i in
+loop-i-preserved c = let at_loop = c.loop-i in
     let image = c.args.image.now in
-    (omega arith, ap (set at-loop.rows at-loop.i) c.job_at.ensures ∙ read_more image _ at-loop.rows at-loop.i refl c.loop-i-test.true at-loop.invariant.1)
+    (omega arith, ap (set at_loop.rows at_loop.i) c.job_at.ensures ∙ read_more image _ at_loop.rows at_loop.i refl c.loop-i-test.true at_loop.invariant.1)
 
 pub returns : goal.returns
-returns c = let at-loop = c.loop-i in
-    read_all c.args.image.now _ at-loop.rows at-loop.i refl c.loop-i-test.false at-loop.invariant.1
+returns c = let at_loop = c.loop-i in
+    read_all c.args.image.now _ at_loop.rows at_loop.i refl c.loop-i-test.false at_loop.invariant.1

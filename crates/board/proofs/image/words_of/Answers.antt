@@ -12,10 +12,10 @@ overflow_cast-words-in-loop-k c = omega (arith, c.type_inv.image c.loop-k.k)
 
 pub loop-k-preserved : goal.loop-k-preserved
 loop-k-preserved c =
-    let at-loop = c.loop-k in
-    (omega arith, word_more c.args.image.now c.requires _ at-loop.words at-loop.k refl c.loop-k-test.true at-loop.invariant.1)
+    let at_loop = c.loop-k in
+    (omega arith, word_more c.args.image.now c.requires _ at_loop.words at_loop.k refl c.loop-k-test.true at_loop.invariant.1)
 
 pub returns : goal.returns
 returns c =
-    let at-loop = c.loop-k in
-    words_all c.args.image.now c.requires _ at-loop.words at-loop.k refl c.loop-k-test.false at-loop.invariant.1
+    let at_loop = c.loop-k in
+    words_all c.args.image.now c.requires _ at_loop.words at_loop.k refl c.loop-k-test.false at_loop.invariant.1

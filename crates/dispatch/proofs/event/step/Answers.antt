@@ -15,8 +15,7 @@ use lib.Seq.{length-take-le}
 use mathlib.Core.Path.{◌≡◌, sym, ap, ◌∙◌}
 use Rattle.dispatch.proofs.event.step.Goals as goal
 
--- What the test of TORN says, and what it hands on where the state isn't torn.
-
+-- In the answers: `told` is what the test of TORN says, and `whole` what it hands on where the state isn't torn.
 pub returns-then-tested : goal.returns-then-tested
 unfolding step_of torn
 returns-then-tested c =

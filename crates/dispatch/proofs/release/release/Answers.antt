@@ -18,10 +18,6 @@ use mathlib.Core.Path.{◌≡◌, refl, sym, ap, subst, ◌∙◌}
 use native.Mathlib.Omega.{arith}
 use Rattle.dispatch.proofs.release.release.Goals as goal
 
--- ---- a test that has passed
-
--- ---- the answers
-
 pub returns-then-time-kept : goal.returns-then-time-kept
 returns-then-time-kept c =
     let table = table_at c.args.words.now c.args.map in
@@ -41,10 +37,10 @@ returns-then-tasks-task c =
     let asked = release c.args.task c.args.time in
     let back : ltb c.args.time c.args.kept.clock ≡ false = le-ltb _ _ c.if-time-kept.false in
     let end : leb end_of_time c.args.time ≡ false = lt-leb _ _ c.if-time-ge-END_OF_TIME.false in
-    let tasks-told : tasks_of table ≡ c.tasks.result = tasks_at_lem _ _ ∙ sym c.tasks.ensures in
+    let tasks_told : tasks_of table ≡ c.tasks.result = tasks_at_lem _ _ ∙ sym c.tasks.ensures in
     c.away-then-tasks-task.ensures
     ∙ sym (event_away table c.args.kept asked NOBODY
-    (later back (later end (here refl (ap (λ (n : ℕ). leb n c.args.task) tasks-told ∙ le-leb _ _ c.if-tasks-task.true)))))
+    (later back (later end (here refl (ap (λ (n : ℕ). leb n c.args.task) tasks_told ∙ le-leb _ _ c.if-tasks-task.true)))))
 
 pub returns-then-has : goal.returns-then-has
 returns-then-has c =
@@ -52,11 +48,11 @@ returns-then-has c =
     let asked = release c.args.task c.args.time in
     let back : ltb c.args.time c.args.kept.clock ≡ false = le-ltb _ _ c.if-time-kept.false in
     let end : leb end_of_time c.args.time ≡ false = lt-leb _ _ c.if-time-ge-END_OF_TIME.false in
-    let tasks-told : tasks_of table ≡ c.tasks.result = tasks_at_lem _ _ ∙ sym c.tasks.ensures in
-    let is-task : leb (tasks_of table) c.args.task ≡ false = ap (λ (n : ℕ). leb n c.args.task) tasks-told ∙ lt-leb _ _ c.if-tasks-task.false in
+    let tasks_told : tasks_of table ≡ c.tasks.result = tasks_at_lem _ _ ∙ sym c.tasks.ensures in
+    let is_task : leb (tasks_of table) c.args.task ≡ false = ap (λ (n : ℕ). leb n c.args.task) tasks_told ∙ lt-leb _ _ c.if-tasks-task.false in
     c.away-then-has.ensures
     ∙ sym (event_away table c.args.kept asked ACTIVE
-    (later back (later end (later is-task (here refl (sym c.has.ensures ∙ c.if-has.true))))))
+    (later back (later end (later is_task (here refl (sym c.has.ensures ∙ c.if-has.true))))))
 
 pub early-requires : goal.early-requires
 early-requires c =
@@ -70,12 +66,12 @@ returns-then-early c =
     let asked = release c.args.task c.args.time in
     let back : ltb c.args.time c.args.kept.clock ≡ false = le-ltb _ _ c.if-time-kept.false in
     let end : leb end_of_time c.args.time ≡ false = lt-leb _ _ c.if-time-ge-END_OF_TIME.false in
-    let tasks-told : tasks_of table ≡ c.tasks.result = tasks_at_lem _ _ ∙ sym c.tasks.ensures in
-    let is-task : leb (tasks_of table) c.args.task ≡ false = ap (λ (n : ℕ). leb n c.args.task) tasks-told ∙ lt-leb _ _ c.if-tasks-task.false in
+    let tasks_told : tasks_of table ≡ c.tasks.result = tasks_at_lem _ _ ∙ sym c.tasks.ensures in
+    let is_task : leb (tasks_of table) c.args.task ≡ false = ap (λ (n : ℕ). leb n c.args.task) tasks_told ∙ lt-leb _ _ c.if-tasks-task.false in
     let idle : has c.args.kept.ready c.args.task ≡ false = sym c.has.ensures ∙ c.if-has.false in
     c.away-then-early.ensures
     ∙ sym (event_away table c.args.kept asked EARLY
-    (later back (later end (later is-task (later idle (here refl (sym c.early.ensures ∙ c.if-early.true)))))))
+    (later back (later end (later is_task (later idle (here refl (sym c.early.ensures ∙ c.if-early.true)))))))
 
 pub released-requires : goal.released-requires
 released-requires c =
@@ -88,10 +84,10 @@ returns c =
     let table = table_at c.args.words.now c.args.map in
     let back : ltb c.args.time c.args.kept.clock ≡ false = le-ltb _ _ c.if-time-kept.false in
     let end : leb end_of_time c.args.time ≡ false = lt-leb _ _ c.if-time-ge-END_OF_TIME.false in
-    let tasks-told : tasks_of table ≡ c.tasks.result = tasks_at_lem _ _ ∙ sym c.tasks.ensures in
-    let is-task : leb (tasks_of table) c.args.task ≡ false = ap (λ (n : ℕ). leb n c.args.task) tasks-told ∙ lt-leb _ _ c.if-tasks-task.false in
+    let tasks_told : tasks_of table ≡ c.tasks.result = tasks_at_lem _ _ ∙ sym c.tasks.ensures in
+    let is_task : leb (tasks_of table) c.args.task ≡ false = ap (λ (n : ℕ). leb n c.args.task) tasks_told ∙ lt-leb _ _ c.if-tasks-task.false in
     let idle : has c.args.kept.ready c.args.task ≡ false = sym c.has.ensures ∙ c.if-has.false in
     let apart : early table c.args.kept c.args.task c.args.time ≡ false = sym c.early.ensures ∙ c.if-early.false in
     c.goes_on.ensures ∙ ap goes_on c.released.ensures
     ∙ release_carried table c.args.kept c.args.task c.args.time
-    (more back (more end (more is-task (more idle (more apart none)))))
+    (more back (more end (more is_task (more idle (more apart none)))))

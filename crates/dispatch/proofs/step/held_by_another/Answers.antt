@@ -15,8 +15,7 @@ loop-rest-init c =
     let a = c.args in
     subst (λ (x : ℕ). Left most_tasks (others a.kept a.task) (holder a.words.now a.map a.kept a.resource) x) (sym c.without-rest.ensures) (left_all most_tasks (others a.kept a.task) (holder a.words.now a.map a.kept a.resource))
 
--- The row that is visited is there.
-
+-- In the answers `index` says that the row that is visited is there.
 pub overflow_cast-row : goal.overflow_cast-row
 overflow_cast-row c =
     let index : count_trailing_zeros 32 c.loop-rest.rest < most_tasks = let l = c.loop-rest in

@@ -11,10 +11,6 @@ use mathlib.Core.Bool.{false}
 use mathlib.Core.Path.{◌≡◌, refl, sym, ◌∙◌}
 use Rattle.dispatch.proofs.step.step.Goals as goal
 
--- ---- a test that has passed
-
--- ---- the answers
-
 pub returns-then-time-kept : goal.returns-then-time-kept
 returns-then-time-kept c =
     let table = table_at c.args.words.now c.args.map in

@@ -17,8 +17,7 @@ use mathlib.Core.Path.{◌≡◌, refl, sym, ap, ap₂, ◌∙◌}
 use native.Mathlib.Omega.{arith}
 use Rattle.dispatch.proofs.step.step_by.Goals as goal
 
--- The job that runs is ready, and its row is there.
-
+-- In the answers `ready` says that the job that runs is ready, and `row` that its row is there.
 pub bounds-kept-task : goal.bounds-kept-task
 bounds-kept-task c =
     let table = table_at c.args.words.now c.args.map in

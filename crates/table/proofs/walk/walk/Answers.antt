@@ -19,12 +19,7 @@ use Rattle.table.proofs.Starts.{marked_none, marked_more, marked_all}
 use Rattle.table.proofs.walk.walk.Invariants.{Tasks}
 use Rattle.table.proofs.walk.walk.Goals as goal
 
--- Before each step: what is left of the plan ends as the whole plan does.
-
--- Before each task: what is left of the table ends as the whole table does.
-
 -- One turn: a task is left.
-
 turn : (words : List ℕ) (tasks resources : ℕ) (finding : Finding) (starts : List ℕ) (at task : ℕ) → task < tasks → Tasks words tasks resources finding starts at task →
     end_of (tasks_in (suc (tasks - (task + 1))) resources words at) ≡ end_of (tasks_in tasks resources words at_tasks)
 turn words tasks resources finding starts at task h inv =
@@ -32,10 +27,9 @@ turn words tasks resources finding starts at task h inv =
     rw e at inv.goes
 
 -- A task ends where its plan does.
-
-task-ends : (m : ℕ) (ws : List ℕ) (at : ℕ) (head : Head) → HeadJudged ws at head → head.finding ≡ Sound → (sections₀ : Sections) → Leaves (standing_first head.cost) sections₀ →
+task_ends : (m : ℕ) (ws : List ℕ) (at : ℕ) (head : Head) → HeadJudged ws at head → head.finding ≡ Sound → (sections₀ : Sections) → Leaves (standing_first head.cost) sections₀ →
     (x : Read (Unit {0})) → end_of (plan_from head.steps m head.cost (standing_in sections₀) ws (at + at_plan)) ≡ x → end_of (task_in m ws at) ≡ x
-task-ends m ws at head judged n sections₀ l x e = head_goes 0 m ws at head judged n
+task_ends m ws at head judged n sections₀ l x e = head_goes 0 m ws at head judged n
     ∙ subst (λ (standing : Standing). end_of (plan_from head.steps m head.cost standing ws (at + at_plan)) ≡ x) l.stands e
 
 pub tasks-init : goal.tasks-init
@@ -100,7 +94,7 @@ tasks-preserved c = let a = c.args in
     let y : sections_in l.sections ≡ [] = nothing_flat l.sections.depth l.sections.resources l.sections.lengths c.if-sections-ne0.false in
     let v : end_of (plan_from 0 a.resources h.result.cost (standing_in l.sections) ws l.at) ≡ _ = rw o at l.invariant.goes in
     let x : end_of (task_in a.resources ws t.at) ≡ got tt l.at =
-    task-ends a.resources ws t.at h.result h.ensures n z.result z.ensures (got tt l.at)
+    task_ends a.resources ws t.at h.result h.ensures n z.result z.ensures (got tt l.at)
     (sym v ∙ plan_ends a.resources h.result.cost (sections_in l.sections) (spare_in l.sections) ws l.at y) in
     record {
       none = l.invariant.none;
@@ -147,7 +141,7 @@ returns-in_default-found c = let a = c.args in
     let e : l.left ≡ suc (l.left - 1) = omega (arith, c.loop-left-test.true) in
     let g : end_of (plan_from (suc (l.left - 1)) a.resources h.result.cost (standing_in l.sections) ws l.at) ≡ _ = rw e at l.invariant.goes in
     let x : end_of (task_in a.resources ws t.at) ≡ stopped_by s.result.finding (got tt l.at) =
-    task-ends a.resources ws t.at h.result h.ensures c.in-Sound.is z.result z.ensures (stopped_by s.result.finding (got tt l.at))
+    task_ends a.resources ws t.at h.result h.ensures c.in-Sound.is z.result z.ensures (stopped_by s.result.finding (got tt l.at))
     (sym g ∙ step_off (l.left - 1) a.resources h.result.cost l.sections ws l.at s.result s.ensures n l.at) in
     record {
       reads = sym (turn ws a.tasks a.resources t.finding-1 t.starts t.at t.task c.tasks-test.true t.invariant)
@@ -166,7 +160,7 @@ returns-then-sections-ne0 c = let a = c.args in
     let y : nothing_held (sections_in l.sections) ≡ false = nothing_deep l.sections.depth l.sections.resources l.sections.lengths c.if-sections-ne0.true in
     let v : end_of (plan_from 0 a.resources h.result.cost (standing_in l.sections) ws l.at) ≡ _ = rw o at l.invariant.goes in
     let x : end_of (task_in a.resources ws t.at) ≡ bad NEST l.at =
-    task-ends a.resources ws t.at h.result h.ensures c.in-Sound.is z.result z.ensures (bad NEST l.at)
+    task_ends a.resources ws t.at h.result h.ensures c.in-Sound.is z.result z.ensures (bad NEST l.at)
     (sym v ∙ plan_holds a.resources h.result.cost (sections_in l.sections) (spare_in l.sections) ws l.at y) in
     record {
       reads = sym (turn ws a.tasks a.resources t.finding-1 t.starts t.at t.task c.tasks-test.true t.invariant)

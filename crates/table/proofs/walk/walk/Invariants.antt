@@ -14,6 +14,7 @@ use Rattle.table.specs.declared.sections.Sections.{Sections}
 use Rattle.table.proofs.Starts.{Marked}
 use Rattle.table.proofs.walk.walk.Given as goal
 
+-- Before each step: what is left of the plan ends as the whole plan does.
 pub record Steps (words : List ℕ) (resources : ℕ) (cost left₀ at₀ : ℕ) (sections₀ : Sections) (finding : Finding) (at : ℕ) (sections : Sections) (left : ℕ) : Type 0 where
   pub none : finding ≡ Sound
   pub room : at ≤ length words
@@ -21,6 +22,7 @@ pub record Steps (words : List ℕ) (resources : ℕ) (cost left₀ at₀ : ℕ)
   pub place : at + step_size * left ≡ at₀ + step_size * left₀
   pub goes : end_of (plan_from left resources cost (standing_in sections) words at) ≡ end_of (plan_from left₀ resources cost (standing_in sections₀) words at₀)
 
+-- Before each task: what is left of the table ends as the whole table does.
 pub record Tasks (words : List ℕ) (tasks resources : ℕ) (finding : Finding) (starts : List ℕ) (at task : ℕ) : Type 0 where
   pub none : finding ≡ Sound
   pub within : task ≤ tasks

@@ -11,7 +11,6 @@ use Rattle.sets.proofs.Search.{any_member, left_all, left_done, left_below, left
 use Rattle.torn.proofs.released.some_number_wrong.Goals as goal
 
 -- The ground, over the numbers as they were gathered.
-
 ground : (kept : Kept) (ns : List ℕ) → ns ≡ numbers_of kept → any_member most_tasks kept.ready (wrong_among ns kept.ready kept.count) ≡ torn_numbers kept
 ground kept ns e = ap (λ (xs : List ℕ). any_member most_tasks kept.ready (wrong_among xs kept.ready kept.count)) e ∙ torn_numbers_lem kept
 

@@ -45,8 +45,8 @@ returns-then-p-gt-MOST_MULTIPLE c =
     let table = table_at c.args.words.now c.args.map in
     let count = c.tasks-n.ensures ∙ sym (tasks_at_lem c.args.words.now c.args.map) in
     let times = c.gather-times.ensures in
-    let p-is = c.multiple-p.ensures table c.requires count times.are_periods in
-    long table p-is c.if-p-gt-MOST_MULTIPLE.true
+    let p_is = c.multiple-p.ensures table c.requires count times.are_periods in
+    long table p_is c.if-p-gt-MOST_MULTIPLE.true
 
 pub load-requires : goal.load-requires
 load-requires c =
@@ -60,9 +60,9 @@ returns-then-load-p c =
     let table = table_at c.args.words.now c.args.map in
     let count = c.tasks-n.ensures ∙ sym (tasks_at_lem c.args.words.now c.args.map) in
     let times = c.gather-times.ensures in
-    let p-is = c.multiple-p.ensures table c.requires count times.are_periods in
+    let p_is = c.multiple-p.ensures table c.requires count times.are_periods in
     let loaded = c.load.ensures table c.requires count (times.are_periods, times.are_costs) in
-    heavy table p-is c.if-p-gt-MOST_MULTIPLE.false loaded c.if-load-p.true
+    heavy table p_is c.if-p-gt-MOST_MULTIPLE.false loaded c.if-load-p.true
 
 pub first_late-requires : goal.first_late-requires
 first_late-requires c =
@@ -73,6 +73,6 @@ returns c =
     let table = table_at c.args.words.now c.args.map in
     let count = c.tasks-n.ensures ∙ sym (tasks_at_lem c.args.words.now c.args.map) in
     let times = c.gather-times.ensures in
-    let p-is = c.multiple-p.ensures table c.requires count times.are_periods in
+    let p_is = c.multiple-p.ensures table c.requires count times.are_periods in
     let loaded = c.load.ensures table c.requires count (times.are_periods, times.are_costs) in
-    light table p-is c.if-p-gt-MOST_MULTIPLE.false loaded c.if-load-p.false c.first_late.ensures
+    light table p_is c.if-p-gt-MOST_MULTIPLE.false loaded c.if-load-p.false c.first_late.ensures

@@ -12,15 +12,13 @@ use Rattle.verdict.specs.Times.{AreTimes, timed}
 use Rattle.verdict.proofs.Demand.{demand_most}
 use Rattle.verdict.proofs.Loop.{summed_none, summed_more, summed_all}
 use Rattle.verdict.proofs.Rest.{rest, demand_more, demand_done}
-use Rattle.verdict.proofs.work.demand.Invariants.{So, mostDemand}
+use Rattle.verdict.proofs.work.demand.Invariants.{So, most_demand}
 use Rattle.verdict.proofs.work.demand.Goals as goal
 
--- the most that one task can ask for
-
 -- h(t) asks a task for T, D and C alone
-same-demand : (task : Task) (t : ℕ) {period deadline cost : ℕ} → period ≡ task.T → deadline ≡ task.D → cost ≡ task.C →
+same_demand : (task : Task) (t : ℕ) {period deadline cost : ℕ} → period ≡ task.T → deadline ≡ task.D → cost ≡ task.C →
     demand_of (timed period deadline cost) t ≡ demand_of task t
-same-demand task t e q w = rw (e, q, w)
+same_demand task t e q w = rw (e, q, w)
 
 module _ (table : Table) (periods deadlines costs : List ℕ) (t n sum i : ℕ) (v : Valid table) (l : t ≤ most_multiple + most_ticks)
     (are : AreTimes table periods deadlines costs) (s : So table t n sum i) (h : i < n) where
@@ -37,11 +35,11 @@ module _ (table : Table) (periods deadlines costs : List ℕ) (t n sum i : ℕ) 
   most = subst (λ (x : ℕ). x ≤ most_ticks) (sym (are.are_costs i below)) here.C_most
 
   part_is : {part : ℕ} → part ≡ demand_of (timed (get_or periods i 0) (get_or deadlines i 0) (get_or costs i 0)) t → part ≡ demand_of (task_of table i) t
-  part_is e = e ∙ same-demand (task_of table i) t (are.are_periods i below) (are.are_deadlines i below) (are.are_costs i below)
+  part_is e = e ∙ same_demand (task_of table i) t (are.are_periods i below) (are.are_deadlines i below) (are.are_costs i below)
 
-  part_most : {part : ℕ} → part ≡ demand_of (timed (get_or periods i 0) (get_or deadlines i 0) (get_or costs i 0)) t → part ≤ mostDemand
+  part_most : {part : ℕ} → part ≡ demand_of (timed (get_or periods i 0) (get_or deadlines i 0) (get_or costs i 0)) t → part ≤ most_demand
   part_most e =
-      subst (λ (x : ℕ). x ≤ mostDemand) (sym (part_is e))
+      subst (λ (x : ℕ). x ≤ most_demand) (sym (part_is e))
       (le_trans (demand_most table.resources (task_of table i) t here) (mul-le-mul_left most_ticks up))
     where
       up : 1 + t ≤ 1 + (most_multiple + most_ticks)
@@ -49,7 +47,7 @@ module _ (table : Table) (periods deadlines costs : List ℕ) (t n sum i : ℕ) 
 
   more : {part : ℕ} → part ≡ demand_of (timed (get_or periods i 0) (get_or deadlines i 0) (get_or costs i 0)) t → So table t n (sum + part) (i + 1)
   more {part} e =
-      summed_more Task (λ (tasks : List Task). demand_sum tasks t) mostDemand table.tasks n sum i part s h (part_most e)
+      summed_more Task (λ (tasks : List Task). demand_sum tasks t) most_demand table.tasks n sum i part s h (part_most e)
       (demand_more table t i below ∙ ap (λ (x : ℕ). x + demand_sum (rest table (i + 1)) t) (sym (part_is e)))
 
 pub loop-i-init : goal.loop-i-init
@@ -95,7 +93,7 @@ overflow_add-sum c =
     let known = c.requires.0 in
     let w = c.loop-i in
     let so : So known.table c.args.t c.args.n w.sum w.i = w.invariant c.requires.1 known.table known.valid known.count known.so in
-    let part : c.demand_of-sum.result ≤ mostDemand =
+    let part : c.demand_of-sum.result ≤ most_demand =
     part_most known.table c.args.periods.now c.args.deadlines.now c.args.costs.now _ _ _ _ known.valid c.requires.1 known.so so
     c.loop-i-test.true c.demand_of-sum.ensures
     in

@@ -10,11 +10,11 @@ use Rattle.verdict.specs.Times.{AreTimes, EveryTable}
 use Rattle.verdict.proofs.Loop.{Summed}
 use Rattle.verdict.proofs.work.demand.Given as goal
 
-abbrev pub mostDemand : ℕ
-mostDemand = most_ticks * (1 + (most_multiple + most_ticks))
+abbrev pub most_demand : ℕ
+most_demand = most_ticks * (1 + (most_multiple + most_ticks))
 
 abbrev pub So : Table → ℕ → ℕ → ℕ → ℕ → Type 0
-So table t n sum i = Summed Task (λ (tasks : List Task). demand_sum tasks t) mostDemand table.tasks n sum i
+So table t n sum i = Summed Task (λ (tasks : List Task). demand_sum tasks t) most_demand table.tasks n sum i
 
 abbrev pub invariant-loop-i : goal.invariant-loop-i
 invariant-loop-i l = l.t ≤ most_multiple + most_ticks →

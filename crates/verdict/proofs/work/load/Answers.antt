@@ -11,7 +11,7 @@ use Rattle.verdict.specs.Times.{ArePeriods, AreCosts}
 use Rattle.verdict.specs.Verdict.{load_of}
 use Rattle.verdict.proofs.Loop.{summed_none, summed_more, summed_all}
 use Rattle.verdict.proofs.Rest.{rest, load_more, load_done}
-use Rattle.verdict.proofs.work.load.Invariants.{So, mostLoad}
+use Rattle.verdict.proofs.work.load.Invariants.{So, most_load}
 use Rattle.verdict.proofs.work.load.Goals as goal
 
 -- the most that one task adds
@@ -23,18 +23,18 @@ module _ (table : Table) (periods costs : List ℕ) (p n sum i : ℕ) (v : Valid
   here : ValidTask table.resources (task_of table i)
   here = v.each i below
 
-  product : get_or costs i 0 * p ≤ mostLoad
+  product : get_or costs i 0 * p ≤ most_load
   product = mul-le-mul (subst (λ (x : ℕ). x ≤ most_ticks) (sym (are.1 i below)) here.C_most) l
 
   some : zero < get_or periods i 0
   some = subst (λ (x : ℕ). zero < x) (sym (are.0 i below)) here.T_least
 
-  part : get_or costs i 0 * p / get_or periods i 0 ≤ mostLoad
+  part : get_or costs i 0 * p / get_or periods i 0 ≤ most_load
   part = le_trans (div-le_self (get_or costs i 0 * p) (get_or periods i 0)) product
 
   more : So table p n (sum + get_or costs i 0 * p / get_or periods i 0) (i + 1)
   more =
-      summed_more Task (load_of p) mostLoad table.tasks n sum i (get_or costs i 0 * p / get_or periods i 0) s h part
+      summed_more Task (load_of p) most_load table.tasks n sum i (get_or costs i 0 * p / get_or periods i 0) s h part
       (load_more table p i below ∙ ap (λ (x : ℕ). x + load_of p (rest table (i + 1))) (sym (ap₂ (λ (x y : ℕ). x * p / y) (are.1 i below) (are.0 i below))))
 
 pub loop-i-init : goal.loop-i-init

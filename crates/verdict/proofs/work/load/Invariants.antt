@@ -9,11 +9,11 @@ use Rattle.verdict.specs.Verdict.{load_of}
 use Rattle.verdict.proofs.Loop.{Summed}
 use Rattle.verdict.proofs.work.load.Given as goal
 
-abbrev pub mostLoad : ℕ
-mostLoad = most_ticks * most_multiple
+abbrev pub most_load : ℕ
+most_load = most_ticks * most_multiple
 
 abbrev pub So : Table → ℕ → ℕ → ℕ → ℕ → Type 0
-So table p n sum i = Summed Task (load_of p) mostLoad table.tasks n sum i
+So table p n sum i = Summed Task (load_of p) most_load table.tasks n sum i
 
 abbrev pub invariant-loop-i : goal.invariant-loop-i
 invariant-loop-i l = l.p ≤ most_multiple →
