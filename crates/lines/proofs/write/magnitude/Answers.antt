@@ -10,7 +10,7 @@ use mir.Facts.{to_z-of_z, Fits-nat_abs}
 use Rattle.lines.proofs.Sign.{above, below_size, not_below}
 use Rattle.lines.proofs.write.magnitude.Goals as goal
 
--- In the answers: the number itself is read back as it is (`same`, `back`), and so is -1 less the number (`is_above`, `fits_above`, `same_above`).
+-- In the answers: the number itself is read back as it is, and so is -1 less the number.
 
 pub overflow_sub-above : goal.overflow_sub-above
 overflow_sub-above c =
