@@ -39,7 +39,8 @@ use Rattle.runs.proofs.Moves.{refused_why}
 use Rattle.runs.proofs.Stack.{entry_least, HeldAt, held_entry}
 use Rattle.runs.proofs.Shape.{Shape}
 use Rattle.runs.proofs.Reached.{ReachedWith, begin_kept, reached_moves, table_stays}
-use Rattle.demand3.proofs.Separate.{someone_runs, Sep, sep_kept, only_floor}
+use Rattle.demand3.proofs.Separate.{someone_runs, Sep}
+use Rattle.demand3.proofs.SeparateKept.{sep_kept, only_floor}
 
 -- ---- no step is answered HELD
 

@@ -9,7 +9,7 @@ use Rattle.table.specs.Table.{Table, task_of}
 use Rattle.table.specs.Held.{held_by, held_set}
 use Rattle.table.specs.Innermost.{innermost_of}
 use Rattle.table.specs.Floor.{users_of, floor_of}
-use Rattle.table.specs.Map.{table_at, map_of, next_of}
+use Rattle.table.specs.Map.{table_at, next_of}
 use Rattle.table.specs.Said.{said_of, check_said, Surveyed, survey_said, survey_of}
 use Rattle.table.specs.Said as found
 use Rattle.table.specs.declared.Map.{Map}
@@ -42,7 +42,8 @@ use Rattle.player.specs.Play.{first_session, session_after, answer_to, Plays}
 use Rattle.player.specs.declared.Session.{Session}
 use Rattle.player.specs.declared.Answered.{Answered}
 use Rattle.pinned.specs.Pinned.{Pinned, itself}
-use Rattle.pinned.proofs.Meaning.{finding_from, finding_back, parts_from, parts_back, answer_from, answer_back, started_from, started_back, verdict_from, verdict_back}
+use Rattle.pinned.proofs.Meaning.{finding_from, parts_from, answer_from, started_from, verdict_from}
+use Rattle.pinned.proofs.WaysBack.{finding_back, parts_back, answer_back, started_back, verdict_back}
 
 -- The lemma: what has a way back pins.
 pub pinned_by : {A B : Type 0} (meaning : A → B) (back : B → A) → ((r : A) → back (meaning r) ≡ r) → (value : B) → Pinned meaning value
