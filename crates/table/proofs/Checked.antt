@@ -11,13 +11,14 @@ use Rattle.table.specs.Table.{Task, Table}
 use Rattle.table.specs.Check.{Read, got, bad, ◌and_then◌, task_in, tasks_in, sound, refused, ended, check_of}
 use Rattle.table.specs.Map.{map_of}
 use Rattle.table.specs.Said.{says, said_of, survey_said, survey_of}
-use Rattle.table.specs.Walk.{end_of, refused_of, WalkJudged}
+use Rattle.table.specs.Walk.{end_of, word_of, refused_of, WalkJudged}
 use Rattle.table.specs.declared.Finding.{Finding}
-use Rattle.table.specs.declared.Finding.TheVariants.{Sound, Short}
+use Rattle.table.specs.declared.Finding.TheVariants.{Sound, Short, Count}
+use Rattle.table.specs.declared.Survey.{Survey}
 use Rattle.table.specs.declared.words.Word.{Word}
 use Rattle.table.specs.declared.walk.Walked.{Walked}
 use Rattle.table.proofs.Findings.{refusal}
-use Rattle.table.proofs.Reading.{Seen, gets, refuses, seen, WordSound, WordRefused}
+use Rattle.table.proofs.Reading.{Seen, gets, refuses, seen, WordSound, WordRefused, word_sound}
 
 -- As many tasks as were to be read.
 pub tasks_length : (left m : ℕ) (ws : List ℕ) (at : ℕ) (tasks : List Task) (end : ℕ) → tasks_in left m ws at ≡ got tasks end → length tasks ≡ left
@@ -113,3 +114,12 @@ module _ (ws : List ℕ) (w : Word) (first : WordSound COUNT 1 most_tasks ws 0 w
             go (refuses n p f) =
                 let g : ◌≡◌ {A = Read (Unit {0})} (bad n p) (got tt r.end) = sym (ap end_of f) ∙ ends in
                 never (cc)
+
+-- "words remain after the last task": what `survey` answers there, of all that it has read.
+pub extra_words : (ws : List ℕ) (w v : Word) (r : Walked) (result : Survey) → w ≡ word_of (Count 0) 1 most_tasks ws 0 → w.finding ≡ Sound →
+    v ≡ word_of (Count 1) 0 most_resources ws 1 → v.finding ≡ Sound → WalkJudged w.value v.value ws r → r.finding ≡ Sound →
+    result ≡ refused_of (Short r.end) → r.end < length ws → survey_said result ≡ survey_of ws
+extra_words ws w v r result read_w sound_w read_v sound_v judged e is more =
+    let f = word_sound COUNT (Count 0) 1 most_tasks ws 0 w refl read_w sound_w in
+    let g = word_sound COUNT (Count 1) 0 most_resources ws 1 v refl read_v sound_v in
+    ap survey_said is ∙ extra_refused ws w f v g r judged e more

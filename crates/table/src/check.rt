@@ -24,6 +24,7 @@ fn refused(finding: Finding) -> Survey
 }
 
 // What a list of words is, and where its tasks start.
+#[tactic(auto, using(crate::proofs::Checked::extra_words))]
 pub fn survey(words: &[u32]) -> Survey
     ensures { survey_said result ≡ survey_of words.now }
 {

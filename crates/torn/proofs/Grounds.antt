@@ -10,15 +10,16 @@ use lib.Dec.{ltb, leb}
 use lib.ListN.{length, take}
 use lib.Pow.{pow_mono}
 use lib.Seq.{take_all}
-use borrow.Author.Tests.{lt-ltb, le-ltb, ltb-true, ltb-false}
+use borrow.Author.Tests.{le-leb, lt-ltb, le-ltb, ltb-true, ltb-false}
 use Rattle.sets.specs.Member.{width, has}
 use Rattle.numbers.specs.Any.{any_below}
-use Rattle.numbers.proofs.Tests.{never, or_false_left, or_false_right}
+use Rattle.numbers.proofs.Tests.{never, or_right, or_false_left, or_false_right}
 use Rattle.table.specs.Limits.{room, most_tasks, end_of_time, most_releases}
 use Rattle.table.specs.Table.{Table, tasks_of}
 use Rattle.table.specs.Check.{Checked, sound, refused, check_of}
 use Rattle.table.specs.Map.{table_at, map_of}
-use Rattle.table.specs.Said.{said_of, finding_said, passes}
+use Rattle.table.specs.Said.{said_of, finding_said, passes, Surveyed, survey_said, survey_of}
+use Rattle.table.specs.declared.Survey.{Survey}
 use Rattle.table.specs.declared.Map.{Map}
 use Rattle.table.specs.declared.Finding.{Finding}
 use Rattle.table.specs.declared.Finding.TheVariants as finding
@@ -26,7 +27,7 @@ use Rattle.table.proofs.Findings.{is_sound}
 use Rattle.table.proofs.Laws.{table_at_lem}
 use Rattle.machine.specs.Order.{row_of}
 use Rattle.machine.specs.declared.Kept.{Kept}
-use Rattle.torn.specs.Torn.{not_sound, torn_table, torn_clock, torn_ready, torn_last, torn_count, torn_by, torn_of}
+use Rattle.torn.specs.Torn.{not_sound, torn_table, torn_clock, torn_ready, torn_place, torn_times, torn_last, torn_count, torn_by, torn_of}
 use Rattle.torn.specs.Examined.{examined_of}
 use Rattle.torn.specs.declared.Tested.{Tested}
 
@@ -49,6 +50,17 @@ last_is table kept n b q e = ap (λ (k : ℕ). any_below k (λ i. has kept.had i
 pub count_is : (kept : Kept) (b : Bool) → ltb most_releases kept.count ≡ b → torn_count kept ≡ b
 unfolding torn_count
 count_is kept b e = e
+
+-- A ground that holds tears the state, whatever those before it say: what `torn_by` asks of the clock and of the count.
+pub clock_tears : (table : Table) (kept : Kept) → end_of_time ≤ kept.clock → true ≡ torn_by table kept
+unfolding torn_by
+clock_tears table kept late = rw (clock_is kept _ (le-leb _ _ late))
+
+pub count_tears : (table : Table) (kept : Kept) → most_releases < kept.count → true ≡ torn_by table kept
+unfolding torn_by
+count_tears table kept many =
+    sym (or_right (torn_clock kept) _ (or_right (torn_ready table kept) _ (or_right (torn_place table kept) _
+    (or_right (torn_times kept) _ (or_right (torn_last table kept) _ (rw (count_is kept _ (lt-ltb _ _ many))))))))
 
 -- At most sixteen tasks, so a ready set of n digits is one of sixteen.
 pub ready_sixteen : (ready tasks m : ℕ) → tasks ≡ min m most_tasks → ready < 2 ^ tasks → ready < 2 ^ most_tasks
@@ -119,3 +131,11 @@ module _ (words : List ℕ) (used : ℕ) (kept : Kept) where
 
   pub examined_table : (t : Table) (map : Map) → check_of (take used words) ≡ sound t → map ≡ map_of (take used words) → table_at (take used words) map ≡ t
   examined_table t map e m = ap (λ (x : Map). table_at (take used words) x) m ∙ table_at_lem (take used words) t e
+
+-- More words in use than a table may have tear the state, and the map is that of the words in use.
+pub long_examined : (words : List ℕ) (used end : ℕ) (kept : Kept) (survey : Survey) → end ≡ min used (length words) →
+    survey_said survey ≡ survey_of (take end words) → room < used →
+    ◌≡◌ {A = Tested} (record { torn = true; map = survey.map }) (examined_of words used kept)
+long_examined words used end kept survey least said long =
+    examined words used kept true survey.map (too_long words used kept long)
+    (ap (λ (x : Surveyed). x.map) said ∙ ap map_of (take_end words used end least))

@@ -73,6 +73,7 @@ fn last_release_after_clock(kept: Kept, tasks: u32) -> bool
 }
 
 // The grounds behind the table's own, in document 01's order.
+#[tactic(auto, using(crate::proofs::Grounds::clock_tears, crate::proofs::Grounds::count_tears))]
 fn torn_by(words: &[u32], map: Map, kept: Kept) -> bool
     ensures { result ≡ torn_by (table_at words.now map) kept }
 {
@@ -100,6 +101,7 @@ fn torn_by(words: &[u32], map: Map, kept: Kept) -> bool
 
 // The whole test, of a state's words, of how many of them are in use and of what is kept. No more words are in use than there are, and no table has more than
 // its room.
+#[tactic(auto, using(crate::proofs::Grounds::long_examined))]
 pub fn examine(words: &[u32], used: usize, kept: Kept) -> Tested
     ensures { result ≡ examined_of words.now used kept }
 {

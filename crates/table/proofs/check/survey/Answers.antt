@@ -8,7 +8,7 @@ use Rattle.table.specs.Limits.{most_tasks, most_resources, at_tasks}
 use Rattle.table.specs.Said.{survey_said}
 use Rattle.table.specs.declared.Finding.TheVariants.{Count}
 use Rattle.table.proofs.Reading.{word_sound, word_refused}
-use Rattle.table.proofs.Checked.{first_refused, second_refused, task_refused, extra_refused, all_sound}
+use Rattle.table.proofs.Checked.{first_refused, second_refused, task_refused, all_sound}
 use Rattle.table.proofs.check.survey.Goals as goal
 
 pub returns-in_default : goal.returns-in_default
@@ -44,16 +44,6 @@ returns-in_default-finding-2 c = let ws = c.args.words.now in
     ap survey_said c.refused-in_default-finding-2.ensures
     ∙ task_refused ws n.result f m.result g k.result k.ensures c.in_default-finding-2.not-Sound
 
-pub returns-then-walked-words : goal.returns-then-walked-words
-returns-then-walked-words c = let ws = c.args.words.now in
-    let n = c.read_word-tasks in
-    let m = c.read_word-resources in
-    let k = c.walk-walked in
-    let f = word_sound COUNT (Count 0) 1 most_tasks ws 0 n.result refl n.ensures c.in-Sound.is in
-    let g = word_sound COUNT (Count 1) 0 most_resources ws 1 m.result refl m.ensures c.in-Sound-finding.is in
-    ap survey_said c.refused-then-walked-words.ensures
-    ∙ extra_refused ws n.result f m.result g k.result k.ensures c.in-Sound-finding-2.is c.if-walked-words.true
-
 pub returns : goal.returns
 returns c = let ws = c.args.words.now in
     let n = c.read_word-tasks in
@@ -61,4 +51,5 @@ returns c = let ws = c.args.words.now in
     let k = c.walk-walked in
     let f = word_sound COUNT (Count 0) 1 most_tasks ws 0 n.result refl n.ensures c.in-Sound.is in
     let g = word_sound COUNT (Count 1) 0 most_resources ws 1 m.result refl m.ensures c.in-Sound-finding.is in
-    all_sound ws n.result f m.result g k.result k.ensures c.in-Sound-finding-2.is c.if-walked-words.false
+    let all : length ws ≤ k.result.end = omega arith in
+    all_sound ws n.result f m.result g k.result k.ensures c.in-Sound-finding-2.is all

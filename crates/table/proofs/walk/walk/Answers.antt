@@ -91,7 +91,8 @@ tasks-preserved c = let a = c.args in
     let n : h.result.finding ≡ Sound = c.in-Sound.is in
     let o : l.left ≡ 0 = omega (arith, c.loop-left-test.false) in
     let q : l.at ≡ behind ws t.at = omega (arith, o, l.invariant.place, head_place 0 a.resources ws t.at h.result h.ensures n) in
-    let y : sections_in l.sections ≡ [] = nothing_flat l.sections.depth l.sections.resources l.sections.lengths c.if-sections-ne0.false in
+    let flat : l.sections.depth ≡ 0 = omega arith in
+    let y : sections_in l.sections ≡ [] = nothing_flat l.sections.depth l.sections.resources l.sections.lengths flat in
     let v : end_of (plan_from 0 a.resources h.result.cost (standing_in l.sections) ws l.at) ≡ _ = rw o at l.invariant.goes in
     let x : end_of (task_in a.resources ws t.at) ≡ got tt l.at =
     task_ends a.resources ws t.at h.result h.ensures n z.result z.ensures (got tt l.at)
