@@ -1,7 +1,7 @@
 /*
  * lawqendo.h: the balance chair's dispatcher, for a controller in C.
  *
- * Link with libboard.a (`rt staticlib board` writes target/staticlib/libboard.a, for x86-64 and the C calling convention).
+ * Link with libboard.a (`.ci/archive` writes target/archive/libboard.a, for x86-64-v2 and the C calling convention).
  * Five calls: a check of a task table, a start, two events, and a timing verdict. Each answers for every argument of its
  * types, whatever the numbers are; docs/BOARD.md says what is proved of them.
  *

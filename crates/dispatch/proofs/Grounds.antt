@@ -1,21 +1,24 @@
 -- An event on a state, by whether the state is torn: TORN's row goes first, and a state that isn't torn has what the machine's part counts on.
 -- Assumes nothing.
-use Prim.Native.Nat.{◌<◌, ◌≤◌, ◌^◌}
+use Prim.Native.Nat.{ℕ, ◌<◌, ◌≤◌, ◌^◌}
 use native.Mathlib.Nat.{lt_of_lt_of_le}
 use lib.Pow.{pow_mono}
-use mathlib.Core.Path.{◌≡◌, sym, ap, subst, ◌∙◌}
+use mathlib.Core.Path.{◌≡◌, refl, sym, ap, subst, ◌∙◌}
 use mathlib.Core.Bool.{true, false}
-use Rattle.numbers.specs.Answers.{TORN}
+use Rattle.numbers.specs.Answers.{TORN, END}
+use borrow.Author.Tests.{le-ltb, le-leb}
 use Rattle.sets.specs.Member.{width}
-use Rattle.table.specs.Limits.{room}
+use Rattle.table.specs.Limits.{room, end_of_time}
 use Rattle.table.specs.Table.{Table}
 use Rattle.table.specs.Check.{sound, check_of}
 use Rattle.table.specs.Map.{table_at, map_of}
 use Rattle.table.specs.declared.Map.{Map}
 use Rattle.table.proofs.Laws.{checked_valid}
-use Rattle.machine.specs.Event.{Event}
-use Rattle.machine.specs.Moves.{accepted}
-use Rattle.machine.specs.Away.{turned_away, grounds_of, event_in}
+use Rattle.machine.specs.Event.{Event, release}
+use Rattle.machine.specs.Moves.{Outcome, accepted}
+use Rattle.machine.specs.Away.{here, later, turned_away, grounds_of, event_in}
+use Rattle.machine.specs.declared.Kept.{Kept}
+use Rattle.machine.proofs.Moves.{event_away}
 use Rattle.machine.proofs.Given.{given_here, given_later}
 use Rattle.torn.specs.Torn.{torn_by}
 use Rattle.torn.proofs.Untorn.{untorn, ready_set}
@@ -70,3 +73,11 @@ module _ (s : State) where
           ready = lt_of_lt_of_le (ready_set t s.kept fits (untorn t s.kept q).ready) (pow_mono (checked_valid (words_in s) t e).tasks_most);
         });
       }
+
+-- ---- END
+
+-- What a release answers at a time that is not before the clock and not below the end of time.
+pub late_released : (table : Table) (kept : Kept) (i time : ℕ) (out : Outcome) → kept.clock ≤ time → end_of_time ≤ time →
+    out ≡ turned_away kept END → out ≡ event_in table kept (release i time)
+late_released table kept i time out back late is =
+    is ∙ sym (event_away table kept (release i time) END (later (le-ltb _ _ back) (here refl (le-leb _ _ late))))

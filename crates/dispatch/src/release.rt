@@ -26,6 +26,7 @@ fn early(words: &[u32], map: Map, kept: Kept, task: u32, time: u64) -> bool
     false
 }
 
+#[tactic(auto, using(crate::proofs::Grounds::late_released))]
 pub(crate) fn release(words: &[u32], map: Map, kept: Kept, task: u32, time: u64) -> Outcome
     requires { NotTorn (table_at words.now map) kept }
     ensures { outcome_of result ≡ event_in (table_at words.now map) kept (aRelease task time) }

@@ -2,7 +2,7 @@
 use Prim.Native.Nat.{ℕ, ◌<◌, min}
 use Rattle.dispatch.specs.Parts.{goes_on}
 use Rattle.torn.proofs.Untorn.{untorn}
-use Rattle.numbers.specs.Answers.{BACK, END, NOBODY, ACTIVE, EARLY}
+use Rattle.numbers.specs.Answers.{BACK, NOBODY, ACTIVE, EARLY}
 use Rattle.machine.specs.Event.{release}
 use Rattle.machine.specs.Away.{here, later, more, none, early}
 use Rattle.machine.proofs.Moves.{event_away, release_carried}
@@ -24,19 +24,13 @@ returns-then-time-kept c =
     let asked = release c.args.task c.args.time in
     c.away.ensures ∙ sym (event_away table c.args.kept asked BACK (here refl (lt-ltb _ _ c.if-time-kept.true)))
 
-pub returns-then-time-ge-END_OF_TIME : goal.returns-then-time-ge-END_OF_TIME
-returns-then-time-ge-END_OF_TIME c =
-    let table = table_at c.args.words.now c.args.map in
-    let asked = release c.args.task c.args.time in
-    let back : ltb c.args.time c.args.kept.clock ≡ false = le-ltb _ _ c.if-time-kept.false in
-    c.away-then-time-ge-END_OF_TIME.ensures ∙ sym (event_away table c.args.kept asked END (later back (here refl (le-leb _ _ c.if-time-ge-END_OF_TIME.true))))
-
 pub returns-then-tasks-task : goal.returns-then-tasks-task
 returns-then-tasks-task c =
     let table = table_at c.args.words.now c.args.map in
     let asked = release c.args.task c.args.time in
     let back : ltb c.args.time c.args.kept.clock ≡ false = le-ltb _ _ c.if-time-kept.false in
-    let end : leb end_of_time c.args.time ≡ false = lt-leb _ _ c.if-time-ge-END_OF_TIME.false in
+    let soon : c.args.time < end_of_time = omega arith in
+    let end : leb end_of_time c.args.time ≡ false = lt-leb _ _ soon in
     let tasks_told : tasks_of table ≡ c.tasks.result = tasks_at_lem _ _ ∙ sym c.tasks.ensures in
     c.away-then-tasks-task.ensures
     ∙ sym (event_away table c.args.kept asked NOBODY
@@ -47,7 +41,8 @@ returns-then-has c =
     let table = table_at c.args.words.now c.args.map in
     let asked = release c.args.task c.args.time in
     let back : ltb c.args.time c.args.kept.clock ≡ false = le-ltb _ _ c.if-time-kept.false in
-    let end : leb end_of_time c.args.time ≡ false = lt-leb _ _ c.if-time-ge-END_OF_TIME.false in
+    let soon : c.args.time < end_of_time = omega arith in
+    let end : leb end_of_time c.args.time ≡ false = lt-leb _ _ soon in
     let tasks_told : tasks_of table ≡ c.tasks.result = tasks_at_lem _ _ ∙ sym c.tasks.ensures in
     let is_task : leb (tasks_of table) c.args.task ≡ false = ap (λ (n : ℕ). leb n c.args.task) tasks_told ∙ lt-leb _ _ c.if-tasks-task.false in
     c.away-then-has.ensures
@@ -65,7 +60,8 @@ returns-then-early c =
     let table = table_at c.args.words.now c.args.map in
     let asked = release c.args.task c.args.time in
     let back : ltb c.args.time c.args.kept.clock ≡ false = le-ltb _ _ c.if-time-kept.false in
-    let end : leb end_of_time c.args.time ≡ false = lt-leb _ _ c.if-time-ge-END_OF_TIME.false in
+    let soon : c.args.time < end_of_time = omega arith in
+    let end : leb end_of_time c.args.time ≡ false = lt-leb _ _ soon in
     let tasks_told : tasks_of table ≡ c.tasks.result = tasks_at_lem _ _ ∙ sym c.tasks.ensures in
     let is_task : leb (tasks_of table) c.args.task ≡ false = ap (λ (n : ℕ). leb n c.args.task) tasks_told ∙ lt-leb _ _ c.if-tasks-task.false in
     let idle : has c.args.kept.ready c.args.task ≡ false = sym c.has.ensures ∙ c.if-has.false in
@@ -77,13 +73,14 @@ pub released-requires : goal.released-requires
 released-requires c =
     let row : c.args.task < most_tasks = let l : c.args.task < min c.args.map.tasks most_tasks = subst (λ (n : ℕ). c.args.task < n) c.tasks.ensures c.if-tasks-task.false in
     omega arith in
-    (row, c.if-time-ge-END_OF_TIME.false, (untorn _ _ c.requires.untorn).count)
+    (row, omega arith, (untorn _ _ c.requires.untorn).count)
 
 pub returns : goal.returns
 returns c =
     let table = table_at c.args.words.now c.args.map in
     let back : ltb c.args.time c.args.kept.clock ≡ false = le-ltb _ _ c.if-time-kept.false in
-    let end : leb end_of_time c.args.time ≡ false = lt-leb _ _ c.if-time-ge-END_OF_TIME.false in
+    let soon : c.args.time < end_of_time = omega arith in
+    let end : leb end_of_time c.args.time ≡ false = lt-leb _ _ soon in
     let tasks_told : tasks_of table ≡ c.tasks.result = tasks_at_lem _ _ ∙ sym c.tasks.ensures in
     let is_task : leb (tasks_of table) c.args.task ≡ false = ap (λ (n : ℕ). leb n c.args.task) tasks_told ∙ lt-leb _ _ c.if-tasks-task.false in
     let idle : has c.args.kept.ready c.args.task ≡ false = sym c.has.ensures ∙ c.if-has.false in
