@@ -1,4 +1,5 @@
--- An event on a state, by whether the state is torn: TORN's row goes first, and a state that isn't torn has what the machine's part counts on.
+-- An event on a state, by whether the state is torn: TORN's row goes first, and a state that isn't torn has what the machine's part counts on. Then what a release
+-- answers behind the end of time.
 -- Assumes nothing.
 use Prim.Native.Nat.{ℕ, ◌<◌, ◌≤◌, ◌^◌}
 use native.Mathlib.Nat.{lt_of_lt_of_le}

@@ -1,5 +1,6 @@
 // A whole script: from standard input, in pieces of any size, to standard output. No contract can say what is read or written, so these functions promise
-// that they are safe and end; the answer to each line is `answer::answer`'s, which has a promise. A read that fails counts as the end, and a write that fails ends the run with its error.
+// that they are safe and end; the answer to each line is `answer::answer`'s, which has a promise. A read that fails counts as the end, and a write that fails ends
+// the run with its error.
 ghost use Rattle.std.specs.Prelude.{◌≤◌, length};
 
 use crate::Session;

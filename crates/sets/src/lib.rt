@@ -1,5 +1,5 @@
 // Sets of tasks or resources: document 01, "A set of tasks or resources is one unsigned number with a bit for each member, and its size
-// is the number of ones". Every call answers for every number and every index: an index beyond the width is in no set, and changes none.
+// is the number of ones". Every call answers for every number and every index: an index of 32 or more is in no set, and changes none.
 #![tactic(auto)]
 
 pub mod wide; // wide.rt: a set in a number of 64 bits
