@@ -6,8 +6,9 @@ use mathlib.Core.List.{List, [], ◌∷◌, ◌++◌}
 use native.Mathlib.Omega.{arith}
 use lib.ListN.{length, get_or, take, drop, replicate}
 use lib.Seq.{take_at, drop-append-add, get_or-append-add}
-use Rattle.table.specs.Limits.{most_tasks, most_held}
+use Rattle.table.specs.Limits.{most_tasks}
 use Rattle.machine.specs.declared.Job.{Job}
+use Rattle.machine.proofs.Numbers.{four}
 use Rattle.dispatch.specs.declared.State.{State}
 use Rattle.dispatch.specs.State.{zero_state}
 use Rattle.numbers.specs.Each.{Each}
@@ -48,15 +49,6 @@ length_packed n [] e = omega arith
 length_packed n (a ∷ []) e = absurd (omega arith)
 length_packed zero (a ∷ b ∷ ws) e = absurd (omega arith)
 length_packed (suc n) (a ∷ b ∷ ws) e = ap suc (length_packed n ws (omega arith))
-
--- Four saved deadlines, one by one.
-pub four : (xs : List ℕ) → length xs ≡ most_held → get_or xs 0 0 ∷ get_or xs 1 0 ∷ get_or xs 2 0 ∷ get_or xs 3 0 ∷ [] ≡ xs
-four [] e = absurd (omega arith)
-four (a ∷ []) e = absurd (omega arith)
-four (a ∷ b ∷ []) e = absurd (omega arith)
-four (a ∷ b ∷ c ∷ []) e = absurd (omega arith)
-four (a ∷ b ∷ c ∷ d ∷ []) e = refl
-four (a ∷ b ∷ c ∷ d ∷ f ∷ xs) e = absurd (omega arith)
 
 -- A row is read back, whatever stands behind it.
 pub job_cells_lem : (job : Job) (rest : List ℕ) → TypedJob job → job_in (job_cells job ++ rest) ≡ job

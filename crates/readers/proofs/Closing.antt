@@ -3,7 +3,7 @@
 -- Assumes nothing.
 use Prim.Native.Nat.{ℕ, zero, suc, ◌+◌, ◌-◌, ◌*◌, ◌<◌, min}
 use mathlib.Core.Path.{◌≡◌, refl, sym, ap, ◌∙◌}
-use mathlib.Core.Bool.{Bool, true, false, ◌||◌}
+use mathlib.Core.Bool.{Bool, true, false}
 use mathlib.Core.List.{List, [], ◌∷◌}
 use native.Mathlib.Nat.{suc-min-suc, zero-min, min-zero, not-suc-le-zero}
 use native.Mathlib.Numerals.{add-one}
@@ -11,6 +11,7 @@ use native.Mathlib.Omega.{arith}
 use lib.Dec.{ltb, eqb}
 use lib.ListN.{length, get_or, take, drop}
 use borrow.Author.Tests.{ltb-true, ltb-false, eq-eqb, ne_eqb}
+use Rattle.numbers.proofs.Tests.{or_swap}
 use Rattle.sets.specs.Member.{width, has, with_of}
 use Rattle.sets.proofs.Digit.{same_everywhere}
 use Rattle.sets.proofs.Change.{with_beyond, has_with}
@@ -37,13 +38,7 @@ with_order : (w x j k : ℕ) → with_of w (with_of w x j) k ≡ with_of w (with
 with_order w x j k = go (ltb j w) refl (ltb k w) refl
   where
     same : j < w → k < w → (i : ℕ) → has (with_of w (with_of w x j) k) i ≡ has (with_of w (with_of w x k) j) i
-    same l m i = rw (has_with w (with_of w x j) k i m, has_with w x j i l, has_with w (with_of w x k) j i l, has_with w x k i m) (swap (eqb i k) (eqb i j) (has x i))
-      where
-        swap : (a b d : Bool) → (a || (b || d)) ≡ (b || (a || d))
-        swap true true d = refl
-        swap true false d = refl
-        swap false true d = refl
-        swap false false d = refl
+    same l m i = rw (has_with w (with_of w x j) k i m, has_with w x j i l, has_with w (with_of w x k) j i l, has_with w x k i m) (or_swap (eqb i k) (eqb i j) (has x i))
 
     go : (b : Bool) → ltb j w ≡ b → (d : Bool) → ltb k w ≡ d → with_of w (with_of w x j) k ≡ with_of w (with_of w x k) j
     go true e true f = same_everywhere (with_of w (with_of w x j) k) (with_of w (with_of w x k) j) (same (ltb-true j w e) (ltb-true k w f))

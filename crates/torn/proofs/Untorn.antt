@@ -1,14 +1,12 @@
 -- What a state that isn't torn gives: each ground of TORN, turned round. Assumes nothing.
-use Prim.Native.Nat.{ℕ, zero, suc, ◌/◌, ◌<◌, ◌≤◌, ◌^◌}
-use native.Mathlib.Nat.{pow-suc, le_of_suc-le-suc, not-suc-le-zero}
-use native.Mathlib.Omega.{arith}
-use mathlib.Core.Path.{◌≡◌, refl, sym, subst, ◌∙◌}
-use mathlib.Core.Bool.{Bool, true, false, ◌&&◌}
+use Prim.Native.Nat.{ℕ, ◌<◌, ◌≤◌, ◌^◌}
+use mathlib.Core.Path.{◌≡◌}
+use mathlib.Core.Bool.{true, false, ◌&&◌}
 use lib.Dec.{ltb, leb}
 use lib.ListN.{length, get_or}
 use borrow.Author.Tests.{ltb-false, leb-false}
 use Rattle.sets.specs.Member.{width, has}
-use Rattle.sets.proofs.Digit.{has_suc, has_below, nobody_zero}
+use Rattle.sets.proofs.Digit.{has_below, set_below}
 use Rattle.numbers.specs.Any.{any_below}
 use Rattle.table.specs.Limits.{most_tasks, most_held, most_stored, most_releases}
 use Rattle.table.specs.Table.{Table, tasks_of, task_of}
@@ -80,25 +78,12 @@ place_in table kept i e l h =
     (and_second (has kept.ready i) _
     (any_not most_tasks (λ k. has kept.ready k && ltb (length (task_of table k).plan) (row_of kept k).place) e i l) h)
 
--- ---- a set whose members are all below w is a number of w digits
+-- ---- the ready set
 
-pub set_below : (n w x : ℕ) → x < 2 ^ n → ((i : ℕ) → has x i ≡ true → i < w) → x < 2 ^ w
-set_below n zero x h l = subst (λ (k : ℕ). k < 1) (sym none) (omega arith)
-  where
-    absent : (k : ℕ) (b : Bool) → has x k ≡ b → has x k ≡ false
-    absent k true e = absurd (not-suc-le-zero (l k e))
-    absent k false e = e
-
-    none : x ≡ zero
-    none = nobody_zero n x h (λ k _. absent k (has x k) refl)
-set_below n (suc w) x h l =
-    let half : x / 2 < 2 ^ w = set_below n w (x / 2) (omega arith) (λ i e. le_of_suc-le-suc (l (suc i) (has_suc x i ∙ e))) in
-    rw pow-suc (omega arith)
-
--- So where no ready job's task is at n or above, the ready set is a number of n digits.
+-- Where no ready job's task is at n or above, the ready set is a number of n digits.
 pub ready_fits : (ready tasks : ℕ) → ready < 2 ^ width → any_below width (λ i. has ready i && leb tasks i) ≡ false → ready < 2 ^ tasks
 ready_fits ready tasks fits none =
-    set_below width tasks ready fits
+    set_below tasks ready
     (λ i h. leb-false tasks i
     (and_second (has ready i) (leb tasks i) (any_not width (λ k. has ready k && leb tasks k) none i (has_below width ready i fits h)) h))
 
