@@ -99,12 +99,43 @@ def matching(text, at, left, right):
 
 
 class Function:
-    """A function: its whole name, file, line, whether it is public and for C, its clauses (`requires` or `ensures`, the clause's own name or nothing, and what stands in braces), and
-    the lines of its head."""
+    """A function: its whole name, file, line, whether it is public and for C, the public trait that declares it (or nothing), its type parameters, its clauses (`requires` or `ensures`, the
+    clause's own name or nothing, and what stands in braces), and the lines of its head."""
+
+
+def angles(text, at):
+    """The place behind the `>` that closes the `<` at this place; the arrow `->` closes nothing."""
+    depth = 0
+    for k in range(at, len(text)):
+        depth += (text[k] == "<") - (text[k] == ">" and text[k - 1] != "-")
+        if depth == 0:
+            return k + 1
+    raise ValueError(f"a < at {at} is never closed")
+
+
+def type_name(text):
+    """The name of a type, without its path, reference and parameters; what has none, as a tuple, stands as it is."""
+    bare = re.sub(r"^(?:&\s*(?:'\w+\s+)?(?:mut\s+)?)+", "", squeeze(text))
+    m = re.match(r"(?:\w+\s*::\s*)*(\w+)", bare)
+    return m.group(1) if m else bare
+
+
+def impl_of(head):
+    """What stands between `impl` and its brace: the trait or nothing, and the type. `impl<'a, T: U> V<'a, T>`, `impl<T> U<T> for V<T> where ..`"""
+    head = squeeze(head)
+    if head.startswith("<"):
+        head = head[angles(head, 0):]
+    head = re.split(r"\bwhere\b", head)[0]
+    depth = 0
+    for m in re.finditer(r"[<({\[]|(?<!-)>|[)}\]]|\bfor\b", head):
+        if m.group(0) == "for" and depth == 0:
+            return type_name(head[:m.start()]), type_name(head[m.end():])
+        depth += (m.group(0) in "<({[") - (m.group(0) in ">)}]")
+    return None, type_name(head)
 
 
 def functions(path, text=None):
-    """The functions of a file crates/NAME/src/.., in an impl or a mod or on its own, on one line or on many."""
+    """The functions of a file crates/NAME/src/.., in an impl, a trait or a mod or on its own, on one line or on many."""
     text = read(path) if text is None else text
     plain = without_comments(text)
     crate, inner = re.match(r"(?:.*/)?crates/([^/]+)/src/(.+)\.rt$", path).groups()
@@ -112,7 +143,7 @@ def functions(path, text=None):
     if modules[-1] in ("mod", "lib", "main"):
         modules.pop()
     found, scopes, at = [], [], 0
-    step = re.compile(r"\b(impl|mod|fn)\b|[{}]")
+    step = re.compile(r"\b(impl|trait|mod|fn)\b|[{}]")
     while True:
         m = step.search(plain, at)
         if not m:
@@ -125,14 +156,20 @@ def functions(path, text=None):
                 scopes.pop()
         elif word == "impl":
             brace = plain.index("{", at)
-            scopes.append(re.findall(r"\w+", plain[at:brace])[-1])
+            scopes.append((impl_of(plain[at:brace])[1], False))
             at = brace + 1
+        elif word == "trait":
+            n = re.match(r"\s+(\w+)", plain[at:])
+            brace = plain.find("{", at)
+            if n and brace >= 0:
+                scopes.append((n.group(1), bool(re.search(r"\bpub\s+$", plain[:m.start()]))))
+                at = brace + 1
         elif word == "mod":
             n = re.match(r"\s+(\w+)\s*([;{])", plain[at:])
             if n:
                 at += n.end()
                 if n.group(2) == "{":
-                    scopes.append(n.group(1))
+                    scopes.append((n.group(1), False))
         else:
             n = re.match(r"\s+(\w+)", plain[at:])
             if not n:
@@ -141,19 +178,29 @@ def functions(path, text=None):
             before = plain[max(0, m.start() - 80):m.start()]
             how = re.search(r'(?:\b(pub)(\s*\([^)]*\))?\s+)?(?:(?:const|unsafe)\s+)*(extern\s+"\s*C?\s*"\s+)?$', before)
             f.public = bool(how.group(1)) and not how.group(2)
+            f.trait = scopes[-1][0] if scopes and scopes[-1] and scopes[-1][1] else None
             f.foreign = bool(how.group(3))
             f.name = n.group(1)
             f.crate, f.path, f.line = crate, path, plain.count("\n", 0, m.start()) + 1
-            f.whole = "::".join([crate] + modules + [s for s in scopes if s] + [f.name])
+            f.whole = "::".join([crate] + modules + [s[0] for s in scopes if s] + [f.name])
             start = m.start() - (len(before) - how.start())
-            opening = plain.index("(", at)
+            behind = at + n.end()
+            opening = behind + len(plain[behind:]) - len(plain[behind:].lstrip())
+            f.generics = ""
+            if plain[opening] == "<":
+                opening = angles(plain, opening)
+                f.generics = squeeze(plain[behind:opening])
+            opening = plain.index("(", opening)
             closing = matching(plain, opening, "(", ")")
             f.parameters = squeeze(plain[opening + 1:closing - 1])
             f.clauses, place, result_end = [], closing, None
             while True:
-                n = re.compile(r"\b(requires|ensures)\b|[{;]").search(plain, place)
+                n = re.compile(r"\b(requires|ensures)\b|[{;[]").search(plain, place)
                 if not n:
                     raise ValueError(f"{path}: fn {f.name} has no body")
+                if n.group(0) == "[":
+                    place = matching(plain, n.start(), "[", "]")
+                    continue
                 if result_end is None:
                     result_end = n.start()
                 if n.group(1):
@@ -170,17 +217,58 @@ def functions(path, text=None):
     return found
 
 
+TRAIT = re.compile(r"(?:\bpub(?:\s*\([^)]*\))?\s+)?\btrait\s+(\w+)")
+
+
+def calls(root, used):
+    """What another crate can call of the library crates of the list: each `pub fn`, and each function of a public trait that another crate's code names. Answers them, the files read, and
+    what is wrong with files that cannot be read."""
+    paths = {c: [os.path.join(root, p) if root != "." else p for p in files(root, f"crates/{c}/src", ".rt")] for c in used}
+    words = {c: {w for p in paths[c] for w in re.findall(r"\w+", without_comments(read(p)))} for c in used}
+    found, read_of, faults = [], [], []
+    for c in used:
+        if is_library(root, c):
+            read_of += paths[c]
+            named = set().union(*(words[d] for d in used if d != c))
+            for p in paths[c]:
+                try:
+                    found += [f for f in functions(p) if f.public or f.trait in named]
+                except ValueError as wrong:
+                    faults.append(f"{p} cannot be read: {wrong}")
+    return found, read_of, faults
+
+
+def trait_impls(plain):
+    """Where the impls of traits stand in a text without comments: the trait, the type, the impl's start, its brace and its end."""
+    for m in re.finditer(r"^impl\b", plain, re.M):
+        brace = plain.index("{", m.end())
+        trait, owner = impl_of(plain[m.end():brace])
+        if trait:
+            yield trait, owner, m.start(), brace, matching(plain, brace, "{", "}")
+
+
+def impls(path):
+    """The impls of traits in a file: the trait, the type, and the text of the impl without its functions: its head, its types, constants and ghost items."""
+    plain = without_comments(read(path))
+    for trait, owner, start, brace, end in trait_impls(plain):
+        yield trait, owner, plain[start:brace] + re.split(r"^\s*fn\b", plain[brace + 1:end - 1], maxsplit=1, flags=re.M)[0]
+
+
 def types(path, text=None):
-    """The structs and enums of a file: their names, with the text of each."""
+    """The structs, enums, traits and constants of a file: their names, with the text of each."""
     text = read(path) if text is None else text
     plain = without_comments(text)
     found = {}
+    for m in TRAIT.finditer(plain):
+        found[m.group(1)] = plain[m.start():matching(plain, plain.index("{", m.end()), "{", "}")]
     for m in re.finditer(r"(?:\bpub(?:\s*\([^)]*\))?\s+)?\b(?:struct|enum)\s+(\w+)", plain):
         n = re.compile(r"[{;]").search(plain, m.end())
         end = matching(plain, n.start(), "{", "}") if n.group(0) == "{" else n.end()
         found[m.group(1)] = plain[m.start():end]
+    within = [(start, end) for _, _, start, _, end in trait_impls(plain)]  # what an impl of a trait gives stands with the trait or the type
     for m in re.finditer(r"(?:\bpub(?:\s*\([^)]*\))?\s+)?\bconst\s+(\w+)\s*:[^=;]*(?:\[[^]]*\])?[^=;]*=[^;]*;", plain):
-        found[m.group(1)] = m.group(0)
+        if not any(start < m.start() < end for start, end in within):
+            found[m.group(1)] = m.group(0)
     return found
 
 

@@ -2,6 +2,6 @@
 pub mod Codec
 pub mod Typed
 pub mod Parts
-pub mod Bits
+pub mod Filled
 pub mod Heard
 pub mod Told

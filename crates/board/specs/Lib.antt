@@ -2,3 +2,4 @@
 pub mod Image
 pub mod Answer
 pub mod Calls
+pub mod Kept

@@ -1,64 +1,67 @@
 // Events on an image: the state's parts are read from it, the dispatcher hears the event on them, and what has changed is written back. No `State` is made for an event.
-ghost use Rattle.std.specs.Prelude.{◌≡◌, ◌++◌, length, take};
-ghost use Rattle.dispatch.specs.Heard.{reply_said};
-ghost use Rattle.board.specs.Image.{image_size, clock_at, kept_cells};
-ghost use Rattle.board.specs.Calls.{image_after, ReleaseLeaves, StepLeaves, StartLeaves};
+ghost use Rattle.std.specs.Prelude.{◌≡◌};
+ghost use Rattle.board.specs.Answer.{event_answer};
+ghost use Rattle.board.specs.Kept.{image_kept, heard_said, Hears};
+ghost use Rattle.board.specs.Calls.{ReleaseLeaves, StepLeaves, StartLeaves};
 
-use crate::places::{ANSWER, LENGTH_AT};
-use crate::{answer, image};
-use dispatch::{Reply, State};
+use crate::answer::Answer;
+use crate::image;
+use crate::places::{IMAGE, LENGTH_AT};
+use dispatch::{Outcome, Refusal, State};
 use machine::Kept;
+use table::limits::ROOM;
 
-// "the state comes back equal": a refusal leaves the image as it lies. An accepted event leaves what is kept now.
-fn keep(image: &mut [u64], reply: Reply, kept: Kept)
-    requires { length image.old ≡ image_size }
-    ensures { image.new ≡ image_after image.old (take clock_at image.old ++ kept_cells kept) (reply_said reply) }
+// What the dispatcher answers, written back: "the state comes back equal" of a refusal, which leaves the image as it lies. An accepted event leaves what is kept now.
+fn keep(image: &mut [u64; IMAGE], heard: Result<Outcome, Refusal>) -> Answer
+    ensures image { image.new ≡ image_kept image.old heard }
+    ensures answer { result.numbers ≡ event_answer (heard_said heard) }
 {
-    match reply {
-        Reply::Refused(_) => {}
-        Reply::WentOn(_) => image::put_kept(image, kept),
-        Reply::Finished(_, _) => image::put_kept(image, kept),
+    match heard {
+        Ok(outcome) => {
+            image::put_kept(image, &outcome.kept);
+            Answer::from(outcome.accepted)
+        }
+        Err(refusal) => Answer::from(refusal),
     }
 }
 
-// A release of a task at a time.
-pub(crate) fn release(image: &mut [u64], task: u32, time: u64) -> [u64; ANSWER]
-    requires { length image.old ≡ image_size }
-    ensures { ReleaseLeaves image.old task time image.new result }
+// An event on the parts that are read from an image, and what the dispatcher answers to it, written back.
+fn hear<F: FnOnce(&[u32; ROOM], usize, Kept) -> Result<Outcome, Refusal>>(
+    image: &mut [u64; IMAGE],
+    event: F,
+) -> Answer
+    requires { F.IsAlwaysCallable event }
+    ensures { Hears F.FnOnce event image.old image.new result.numbers }
 {
     let words = image::words_of(image);
     let used = image[LENGTH_AT] as usize;
-    let before = image::kept_of(image);
-    let heard = dispatch::event::release(&words, used, before, task, time);
-    let reply = heard.reply;
-    let kept = heard.kept;
-    keep(image, reply, kept);
-    answer::of_reply(reply)
+    let kept = image::kept_of(image);
+    keep(image, event(&words, used, kept))
+}
+
+// A release of a task at a time.
+pub(crate) fn release(image: &mut [u64; IMAGE], task: u32, time: u64) -> Answer
+    ensures { ReleaseLeaves image.old task time image.new result.numbers }
+{
+    hear(image, |words, used, kept| {
+        dispatch::event::release(words, used, kept, task, time)
+    })
 }
 
 // The running job's next step at a time.
-pub(crate) fn step(image: &mut [u64], time: u64) -> [u64; ANSWER]
-    requires { length image.old ≡ image_size }
-    ensures { StepLeaves image.old time image.new result }
+pub(crate) fn step(image: &mut [u64; IMAGE], time: u64) -> Answer
+    ensures { StepLeaves image.old time image.new result.numbers }
 {
-    let words = image::words_of(image);
-    let used = image[LENGTH_AT] as usize;
-    let before = image::kept_of(image);
-    let heard = dispatch::event::step(&words, used, before, time);
-    let reply = heard.reply;
-    let kept = heard.kept;
-    keep(image, reply, kept);
-    answer::of_reply(reply)
+    hear(image, |words, used, kept| {
+        dispatch::event::step(words, used, kept, time)
+    })
 }
 
 // A start, from a list of words.
-pub(crate) fn start(words: &[u32], image: &mut [u64]) -> [u64; ANSWER]
-    requires { length image.old ≡ image_size }
-    ensures { StartLeaves words.now image.new result }
+pub(crate) fn start(words: &[u32], image: &mut [u64; IMAGE]) -> Answer
+    ensures { StartLeaves words.now image.new result.numbers }
 {
     let begun = State::start(words);
-    let finding = begun.finding;
-    let state = begun.state;
-    image::put_state(image, state);
-    answer::of_finding(finding)
+    image::put_state(image, &begun.state);
+    Answer::from(begun.finding)
 }

@@ -1,144 +1,137 @@
-// A state read from its image, and written into it. The functions here take an image as a slice and ask for its length; the calls lend them a whole one.
-ghost use Rattle.std.specs.Prelude.{◌≡◌, ◌++◌, ◌+◌, ◌≤◌, length, take, drop};
-ghost use Rattle.table.specs.Limits.{room, most_tasks};
-ghost use Rattle.board.specs.Image.{length_at, clock_at, rows_at, row_size, image_size, unpacked, packed, job_in, jobs_in, decode, job_cells, row_cells, kept_cells, encode};
+// A state read from its image, and written into it.
+ghost use Rattle.std.specs.Prelude.{◌≡◌, ◌++◌, ◌+◌, ◌*◌, ◌<◌, ◌≤◌, length, take, drop, slice_index};
+ghost use Rattle.table.specs.Limits.{most_tasks};
+ghost use Rattle.board.specs.Image.{length_at, clock_at, rows_at, row_size, unpacked, packed, job_in, jobs_in, decode, job_cells, row_cells, kept_cells, encode};
 
 use crate::places::{
-    ACTIVE_AT, CLOCK_AT, COUNT_AT, HAD_AT, HALF, LAST_AT, LENGTH_AT, NUMBER_AT, PLACE_AT, READY_AT,
-    ROW_SIZE, ROWS_AT, SAVED_AT,
+    CLOCK_AT, COUNT_AT, HAD_AT, HALF, IMAGE, LENGTH_AT, PACKED, READY_AT, ROWS_AT,
 };
 use dispatch::State;
+use machine::places::{ACTIVE_AT, BASE_AT, LAST_AT, NUMBER_AT, PLACE_AT, ROW_SIZE, SAVED_AT};
 use machine::{Job, Kept};
-use table::limits::{MOST_HELD, ROOM, TASKS};
+use std::array::from_fn;
+use table::limits::{ROOM, TASKS};
 
-// The words of the table, two in each number.
-pub(crate) fn words_of(image: &[u64]) -> [u32; ROOM]
-    requires { length image.now ≡ image_size }
+// The words of the table, two in each number, the first in the low half. By pairs: a word at a time (`from_fn`) takes an event on a short table three times the
+// instructions.
+pub(crate) fn words_of(image: &[u64; IMAGE]) -> [u32; ROOM]
     ensures { result ≡ unpacked (take length_at image.now) }
 {
-    let mut words = [0u32; ROOM];
-    for k in 0..LENGTH_AT {
-        let pair = image[k];
-        words[k + k] = (pair % HALF) as u32;
-        words[k + k + 1] = (pair / HALF) as u32;
+    let mut words = [0; ROOM];
+    for (k, pair) in image[..PACKED].iter().enumerate() {
+        words[2 * k] = (*pair % HALF) as u32;
+        words[2 * k + 1] = (*pair / HALF) as u32;
     }
     words
 }
 
-// The row that starts at a place.
-fn job_at(image: &[u64], at: usize) -> Job
-    requires { at + row_size ≤ length image.now }
-    ensures { result ≡ job_in (drop at image.now) }
+// A row's numbers, from the start of what is lent.
+fn job_of(row: &[u64]) -> Job
+    requires { row_size ≤ length row.now }
+    ensures { result ≡ job_in row.now }
 {
-    let saved = [
-        image[at + SAVED_AT],
-        image[at + SAVED_AT + 1],
-        image[at + SAVED_AT + 2],
-        image[at + SAVED_AT + 3],
-    ];
     Job {
-        base: image[at],
-        active: image[at + ACTIVE_AT],
-        number: image[at + NUMBER_AT],
-        place: (image[at + PLACE_AT] % HALF) as u32,
-        saved,
-        last: image[at + LAST_AT],
+        base: row[BASE_AT],
+        active: row[ACTIVE_AT],
+        number: row[NUMBER_AT],
+        place: (row[PLACE_AT] % HALF) as u32,
+        saved: from_fn(|depth| row[SAVED_AT + depth]),
+        last: row[LAST_AT],
     }
+}
+
+// The row of a task.
+#[tactic(auto, using(crate::proofs::Parts::lent_from))]
+fn job_at(image: &[u64; IMAGE], task: usize) -> Job
+    requires { task < most_tasks }
+    ensures { result ≡ job_in (drop (rows_at + row_size * task) image.now) }
+{
+    job_of(&image[ROWS_AT + ROW_SIZE * task..])
 }
 
 // The rows, one for each task that a table may have.
-fn rows_of(image: &[u64]) -> [Job; TASKS]
-    requires { length image.now ≡ image_size }
+fn rows_of(image: &[u64; IMAGE]) -> [Job; TASKS]
     ensures { result ≡ jobs_in most_tasks (drop rows_at image.now) }
 {
-    let empty = Job {
-        base: 0,
-        active: 0,
-        number: 0,
-        place: 0,
-        saved: [0; MOST_HELD],
-        last: 0,
-    };
-    let mut rows = [empty; TASKS];
-    for i in 0..TASKS {
-        rows[i] = job_at(image, ROWS_AT + ROW_SIZE * i);
-    }
-    rows
+    from_fn(|task| job_at(image, task))
 }
 
 // What is kept, of the state that an image is.
-pub(crate) fn kept_of(image: &[u64]) -> Kept
-    requires { length image.now ≡ image_size }
+#[tactic(auto, unfolding(crate::specs::Image::decode))]
+pub(crate) fn kept_of(image: &[u64; IMAGE]) -> Kept
     ensures { result ≡ (decode image.now).kept }
 {
-    let rows = rows_of(image);
     Kept {
         clock: image[CLOCK_AT],
         count: image[COUNT_AT],
         ready: (image[READY_AT] % HALF) as u32,
         had: (image[HAD_AT] % HALF) as u32,
-        rows,
+        rows: rows_of(image),
     }
 }
 
-// A row's numbers, from a place on.
-fn put_job(image: &mut [u64], at: usize, job: Job)
-    requires { at + row_size ≤ length image.old }
-    ensures { image.new ≡ take at image.old ++ (job_cells job ++ drop (at + row_size) image.old) }
+// A row's numbers, at the start of what is lent.
+fn put_job(row: &mut [u64], job: &Job)
+    requires { row_size ≤ length row.old }
+    ensures { row.new ≡ job_cells job.now ++ drop row_size row.old }
 {
-    let saved = job.saved;
-    image[at] = job.base;
-    image[at + ACTIVE_AT] = job.active;
-    image[at + NUMBER_AT] = job.number;
-    image[at + PLACE_AT] = job.place as u64;
-    image[at + SAVED_AT] = saved[0];
-    image[at + SAVED_AT + 1] = saved[1];
-    image[at + SAVED_AT + 2] = saved[2];
-    image[at + SAVED_AT + 3] = saved[3];
-    image[at + LAST_AT] = job.last;
+    row[BASE_AT] = job.base;
+    row[ACTIVE_AT] = job.active;
+    row[NUMBER_AT] = job.number;
+    row[PLACE_AT] = u64::from(job.place);
+    row[SAVED_AT..LAST_AT].copy_from_slice(&job.saved);
+    row[LAST_AT] = job.last;
+}
+
+// The row of a task.
+fn put_at(image: &mut [u64; IMAGE], task: usize, job: &Job)
+    requires { task < most_tasks }
+    ensures { let at = rows_at + row_size * task in image.new ≡ take at image.old ++ (job_cells job.now ++ drop (at + row_size) image.old) }
+{
+    put_job(&mut image[ROWS_AT + ROW_SIZE * task..], job);
 }
 
 // The rows, one for each task that a table may have.
-fn put_rows(image: &mut [u64], rows: [Job; TASKS])
-    requires { length image.old ≡ image_size }
-    ensures { image.new ≡ take rows_at image.old ++ row_cells rows }
+fn put_rows(image: &mut [u64; IMAGE], rows: &[Job; TASKS])
+    ensures { image.new ≡ take rows_at image.old ++ row_cells rows.now }
 {
-    for i in 0..TASKS {
-        let job = rows[i];
-        put_job(image, ROWS_AT + ROW_SIZE * i, job);
+    for (task, job) in rows.iter().enumerate() {
+        put_at(image, task, job);
     }
 }
 
 // What an event changes. The words and their length stay as they lie.
-pub(crate) fn put_kept(image: &mut [u64], kept: Kept)
-    requires { length image.old ≡ image_size }
-    ensures { image.new ≡ take clock_at image.old ++ kept_cells kept }
+pub(crate) fn put_kept(image: &mut [u64; IMAGE], kept: &Kept)
+    ensures { image.new ≡ take clock_at image.old ++ kept_cells kept.now }
 {
     image[CLOCK_AT] = kept.clock;
     image[COUNT_AT] = kept.count;
-    image[READY_AT] = kept.ready as u64;
-    image[HAD_AT] = kept.had as u64;
-    let rows = kept.rows;
-    put_rows(image, rows);
+    image[READY_AT] = u64::from(kept.ready);
+    image[HAD_AT] = u64::from(kept.had);
+    put_rows(image, &kept.rows);
+}
+
+// Two words in a number.
+#[tactic(auto, using(crate::proofs::Parts::packed_at))]
+fn pair_at(words: &[u32; ROOM], k: usize) -> u64
+    requires { k < length_at }
+    ensures { result ≡ slice_index (packed words.now) k }
+{
+    u64::from(words[2 * k]) + u64::from(words[2 * k + 1]) * HALF
 }
 
 // The words, two in each number.
-fn put_words(image: &mut [u64], words: &[u32])
-    requires { (length image.old ≡ image_size) × (length words.now ≡ room) }
-    ensures { image.new ≡ packed words.now ++ drop length_at image.old }
+fn pairs_of(words: &[u32; ROOM]) -> [u64; PACKED]
+    ensures { result ≡ packed words.now }
 {
-    for k in 0..LENGTH_AT {
-        image[k] = (words[k + k] as u64) + (words[k + k + 1] as u64) * HALF;
-    }
+    from_fn(|k| pair_at(words, k))
 }
 
 // The whole state.
-pub(crate) fn put_state(image: &mut [u64], state: State)
-    requires { length image.old ≡ image_size }
-    ensures { image.new ≡ encode state }
+pub(crate) fn put_state(image: &mut [u64; IMAGE], state: &State)
+    ensures { image.new ≡ encode state.now }
 {
-    put_words(image, &state.words);
+    image[..PACKED].copy_from_slice(&pairs_of(&state.words));
     image[LENGTH_AT] = state.length as u64;
-    let kept = state.kept;
-    put_kept(image, kept);
+    put_kept(image, &state.kept);
 }

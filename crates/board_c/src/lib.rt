@@ -1,5 +1,5 @@
 // What a controller links: the five calls of `board`, as C functions over numbers, a slice and two arrays of fixed length. Each calls the function of its name there and
-// states its promises again.
+// states its promises again, since a library exports nothing to C.
 #![tactic(auto)]
 
 ghost use Rattle.std.specs.Prelude.{◌≡◌};

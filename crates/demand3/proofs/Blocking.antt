@@ -8,6 +8,7 @@ use mathlib.Core.List.{List, [], ◌∷◌}
 use mathlib.Core.Logic.{◌⊎◌, inl, inr, ◌≢◌}
 use native.Mathlib.Omega.{arith}
 use lib.ListN.{take}
+use Rattle.std.proofs.lemmas.Bool.{cases_eq}
 use Rattle.sets.specs.Member.{has}
 use Rattle.table.specs.Limits.{most_tasks}
 use Rattle.table.specs.Table.{Table, tasks_of}
@@ -21,7 +22,7 @@ use Rattle.machine.proofs.Order.{who_ready}
 use Rattle.dispatch.specs.declared.State.{State}
 use Rattle.runs.specs.Run.{Event}
 use Rattle.demand3.specs.Demand3.{state_at, held, Ready, Running, Blocked, HadTurn, Inside, EnteredBefore, Same, Holding}
-use Rattle.machine.proofs.Rows.{Changed, same_or_not}
+use Rattle.machine.proofs.Rows.{Changed}
 use Rattle.runs.proofs.Stack.{stack_none, stack_base}
 use Rattle.runs.proofs.Reached.{Reached, run_reached, reached_whole, table_stays}
 use Rattle.demand3.proofs.Separate.{runs_first}
@@ -62,7 +63,7 @@ module _ (ws : List ℕ) (table : Table) (ok : check_of ws ≡ sound table) (eve
         rows = r.shape.rows;
         below = λ i h. (r.shape.going i h).below;
         number = λ i h. (r.shape.going i h).number;
-        numbers = λ i j h k e. elim (same_or_not i j) [ inl q ↦ q | inr n ↦ absurd (r.shape.numbers i j n h k e) ];
+        numbers = λ i j h k e. elim (cases_eq i j) [ inl q ↦ q | inr n ↦ absurd (r.shape.numbers i j n h k e) ];
         who = λ i e. (who_ready (state_at ws events p).kept i e).1;
       }
 
@@ -127,13 +128,13 @@ module _ (ws : List ℕ) (table : Table) (ok : check_of ws ≡ sound table) (eve
 
       pick : Passed ws events p → (Acting (state_at ws events p) x a) ⊎ ((j : ℕ) × Running (state_at ws events p) j x)
       pick (quiet q) = inl (rw q.same at k)
-      pick (releasing r) = elim (same_or_not k.task r.task) [ inl e ↦ absurd (new r e) | inr n ↦ inl (other r.changes n) ]
-      pick (stepping st) = elim (same_or_not k.task st.task) [ inl e ↦ inr (st.task, runs st e) | inr n ↦ inl (other st.changes n) ]
+      pick (releasing r) = elim (cases_eq k.task r.task) [ inl e ↦ absurd (new r e) | inr n ↦ inl (other r.changes n) ]
+      pick (stepping st) = elim (cases_eq k.task st.task) [ inl e ↦ inr (st.task, runs st e) | inr n ↦ inl (other st.changes n) ]
 
   -- "The running job is the ready one with the earliest active deadline. Among equals it is the one whose release was accepted first"
   acting_least : (p x y a b : ℕ) → ((j : ℕ) × Running (state_at ws events p) j x) → Acting (state_at ws events p) x a → Acting (state_at ws events p) y b →
       (x ≡ y) ⊎ (Sooner a x b y)
-  acting_least p x y a b r h k = elim (same_or_not k.task r.0) [
+  acting_least p x y a b r h k = elim (cases_eq k.task r.0) [
     | inl e ↦ inl (sym r.1.number ∙ ap (λ (i : ℕ). (row_of (state_at ws events p).kept i).number) (sym e) ∙ k.ready.number)
     | inr n ↦ inr (rw (active, r.1.number, k.active, k.ready.number) at (first n))
   ]

@@ -7,6 +7,8 @@ use mathlib.Core.Bool.{true}
 use mathlib.Core.List.{List}
 use mathlib.Core.Logic.{◌⊎◌, inl, inr}
 use lib.ListN.{length, take}
+use Rattle.std.proofs.lemmas.Bool.{cases_eq}
+use Rattle.std.specs.Prelude.{Some}
 use Rattle.sets.proofs.Digit.{has_some}
 use Rattle.table.specs.Table.{Table}
 use Rattle.table.specs.Check.{sound, check_of}
@@ -16,10 +18,8 @@ use Rattle.table.proofs.Laws.{checked_valid}
 use Rattle.machine.specs.Order.{row_of, who_runs}
 use Rattle.machine.specs.Reply.{refused}
 use Rattle.numbers.specs.Answers.{TORN, BACK, END, HELD}
-use Rattle.machine.specs.declared.Who.TheVariants.{Runs}
 use Rattle.runs.specs.Run.{Event, step, heard, state_after, begin}
 use Rattle.demand3.specs.Demand3.{state_at, event_at, reply_to, held, Ready, Running, Blocked, Demand3}
-use Rattle.machine.proofs.Rows.{same_or_not}
 use Rattle.runs.proofs.Reached.{never_torn_lem}
 use Rattle.demand3.proofs.Exclusion.{never_held_lem, never_stuck_lem, mutual_exclusion_lem, no_deadlock_lem}
 use Rattle.demand3.proofs.Ready.{runner_ready}
@@ -47,13 +47,13 @@ module _ (ws : List ℕ) (table : Table) (ok : check_of ws ≡ sound table) wher
   exclusion : (events : List Event) (p i j x y r : ℕ) → Ready (state_at ws events p) i x → Ready (state_at ws events p) j y →
       holds (held (state_at ws events p) i) r ≡ true → holds (held (state_at ws events p) j) r ≡ true → x ≡ y
   unfolding state_at
-  exclusion events p i j x y r h k a b = elim (same_or_not i j) [
+  exclusion events p i j x y r h k a b = elim (cases_eq i j) [
     | inl e ↦ sym h.number ∙ ap (λ (k : ℕ). (row_of (state_after (begin ws) (take p events)).kept k).number) e ∙ k.number
     | inr n ↦ absurd (mutual_exclusion_lem ws table ok (take p events) i j r n h.ready k.ready a b)
   ]
 
   -- Where a job is ready somebody runs, and who runs is ready.
-  someone : (events : List Event) (p i x : ℕ) → Ready (state_at ws events p) i x → (j : ℕ) × (who_runs (state_at ws events p).kept ≡ Runs j)
+  someone : (events : List Event) (p i x : ℕ) → Ready (state_at ws events p) i x → (j : ℕ) × (who_runs (state_at ws events p).kept ≡ Some j)
   unfolding state_at
   someone events p i x h = let d = no_deadlock_lem ws table ok (take p events) (has_some _ i h.ready) in (d.0, d.1)
 

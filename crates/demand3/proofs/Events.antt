@@ -8,6 +8,7 @@ use native.Mathlib.Omega.{arith}
 use native.Mathlib.Numerals.{add-one}
 use native.Mathlib.Decide.{dec_lt}
 use lib.ListN.{length}
+use Rattle.std.specs.Prelude.{Some}
 use Rattle.sets.specs.Member.{width, has}
 use Rattle.table.specs.Limits.{most_tasks}
 use Rattle.table.specs.Table.{Table, tasks_of}
@@ -16,7 +17,6 @@ use Rattle.machine.specs.Reply.{EventReply, idle}
 use Rattle.machine.specs.Machine.{released, locked, unlocked, cleared}
 use Rattle.machine.specs.declared.Job.{Job}
 use Rattle.machine.specs.declared.Kept.{Kept}
-use Rattle.machine.specs.declared.Who.TheVariants.{Runs}
 use Rattle.dispatch.specs.State.{table_in}
 use Rattle.dispatch.specs.Torn.{torn}
 use Rattle.dispatch.specs.Heard.{Heard}
@@ -37,7 +37,7 @@ pub record Good (table : Table) (s : State) : Type 0 where
   pub number : (i : ℕ) → has s.kept.ready i ≡ true → (row_of s.kept i).number < s.kept.count
   pub numbers : (i j : ℕ) → has s.kept.ready i ≡ true → has s.kept.ready j ≡ true →
       (row_of s.kept i).number ≡ (row_of s.kept j).number → i ≡ j
-  pub who : (i : ℕ) → who_runs s.kept ≡ Runs i → has s.kept.ready i ≡ true
+  pub who : (i : ℕ) → who_runs s.kept ≡ Some i → has s.kept.ready i ≡ true
 
 changed_to : {kept next other : Kept} {i : ℕ} {job : Job} {on : Bool} → other ≡ next → Changed kept next i job on → Changed kept other i job on
 changed_to e c = rw e c
@@ -71,7 +71,7 @@ pub record Stepping (ws : List ℕ) (events : List Event) (p : ℕ) : Type 0 whe
   pub task : ℕ
   pub job : Job
   pub on : Bool
-  pub runs : who_runs (state_at ws events p).kept ≡ Runs task
+  pub runs : who_runs (state_at ws events p).kept ≡ Some task
   pub changes : Changed (state_at ws events p).kept (state_at ws events (suc p)).kept task job on
   pub number : on ≡ true → job.number ≡ (row_of (state_at ws events p).kept task).number
   pub base : on ≡ true → job.base ≡ (row_of (state_at ws events p).kept task).base
@@ -91,7 +91,7 @@ module _ (ws : List ℕ) (events : List Event) (table : Table) (tasks : tasks_of
   bit_there : (p i : ℕ) → i < tasks_of (table_in (state_at ws events p)) → i < width
   bit_there p i h = omega (arith, rw (good p).same at h)
 
-  running_there : (p i : ℕ) → who_runs (state_at ws events p).kept ≡ Runs i → i < tasks_of (table_in (state_at ws events p))
+  running_there : (p i : ℕ) → who_runs (state_at ws events p).kept ≡ Some i → i < tasks_of (table_in (state_at ws events p))
   running_there p i e = rw (good p).same ((good p).below i ((good p).who i e))
 
   accepted : (p : ℕ) (e : Event) → event_at events p ≡ e → (next : Kept) (said : EventReply) →

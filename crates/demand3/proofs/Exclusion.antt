@@ -8,6 +8,7 @@ use mathlib.Core.List.{List}
 use native.Mathlib.Omega.{arith}
 use lib.Dec.{eqb}
 use borrow.Author.Tests.{eqb-false, not-true}
+use Rattle.std.specs.Prelude.{Some, None}
 use Rattle.sets.specs.Member.{has}
 use Rattle.table.specs.Limits.{most_tasks}
 use Rattle.table.specs.Table.{Table, task_of}
@@ -24,7 +25,6 @@ use Rattle.machine.specs.Reply.{refused}
 use Rattle.numbers.specs.Answers.{BACK, END, HELD}
 use Rattle.machine.specs.Machine.{held_of}
 use Rattle.machine.specs.declared.Kept.{Kept}
-use Rattle.machine.specs.declared.Who.TheVariants.{Runs, Nobody}
 use Rattle.machine.proofs.Order.{who_ready}
 use Rattle.machine.proofs.Sooner.{sooner_one_way, sooner_higher}
 use Rattle.dispatch.specs.State.{table_in}
@@ -50,7 +50,7 @@ module _ {table : Table} (valid : Valid table) {kept : Kept} (shape : Shape tabl
   uses_floor i r h user low = omega (arith, floor_most table i r (shape.going i h).below user)
 
   -- The running job finds no resource that it uses held by another.
-  pub never_another : (i r : ℕ) → who_runs kept ≡ Runs i → uses (task_of table i) r ≡ true → held_by_another table kept i r ≡ true → ⊥
+  pub never_another : (i r : ℕ) → who_runs kept ≡ Some i → uses (task_of table i) r ≡ true → held_by_another table kept i r ≡ true → ⊥
   unfolding held_by_another
   never_another i r runs user h =
       let found = some_below most_tasks _ h in
@@ -106,8 +106,8 @@ module _ {table : Table} (valid : Valid table) {kept : Kept} (shape : Shape tabl
       given_each (λ n. (n ≡ BACK) ⊎ (n ≡ END)) given
       ((λ h. inl refl), ((λ h. inr refl), ((λ h. absurd (someone (nobody kept h) (someone_runs valid shape some))), ((λ h. absurd (never_locks h)), tt))))
     where
-      someone : who_runs kept ≡ Nobody → (i : ℕ) × (who_runs kept ≡ Runs i) → ⊥
-      someone none p = let runs : who_runs kept ≡ Runs p.0 = p.1 in never (cc)
+      someone : who_runs kept ≡ None → (i : ℕ) × (who_runs kept ≡ Some i) → ⊥
+      someone none p = let runs : who_runs kept ≡ Some p.0 = p.1 in never (cc)
 
 -- ---- demand 3's first part, of every run
 
@@ -142,7 +142,7 @@ module _ (ws : List ℕ) (table : Table) (ok : check_of ws ≡ sound table) (eve
       (not_both (checked_valid ws table ok) run_sep.reached.shape run_sep.inv)
 
   -- Where a job is ready, a ready job runs.
-  pub no_deadlock_lem : reached_state.kept.ready ≢ 0 → (i : ℕ) × (who_runs reached_state.kept ≡ Runs i) × (has reached_state.kept.ready i ≡ true)
+  pub no_deadlock_lem : reached_state.kept.ready ≢ 0 → (i : ℕ) × (who_runs reached_state.kept ≡ Some i) × (has reached_state.kept.ready i ≡ true)
   no_deadlock_lem some =
       let (i, runs) = someone_runs (checked_valid ws table ok) run_sep.reached.shape some in
       (i, runs, (who_ready reached_state.kept i runs).1)

@@ -9,8 +9,8 @@ use mathlib.Core.Path.{◌≡◌, sym, ◌∙◌, subst}
 use mathlib.Core.Logic.{◌⊎◌, inl, inr}
 use native.Mathlib.Omega.{arith}
 use native.Mathlib.Nat.{eq-or-lt_of_le}
+use Rattle.std.proofs.lemmas.Bool.{cases_order}
 use Rattle.machine.specs.Order.{Sooner}
-use Rattle.machine.proofs.Sooner.{Compared, less, same, more, compared}
 
 -- What is seen of a run. A position is a number of events; event p leads from position p to position suc p; a job is its release number.
 pub record Run : Type 1 where
@@ -122,15 +122,15 @@ module _ (run : Run) (facts : Facts run) where
 
   -- The event at which a job entered the section that it is inside of is one.
   pub one_entry : {q r p x : ℕ} → Within run q p x → Within run r p x → q ≡ r
-  one_entry {q} {r} {p} {x} v w = pick (compared q r)
+  one_entry {q} {r} {p} {x} v w = pick (cases_order q r)
     where
       two : {a b : ℕ} → Within run a p x → Within run b p x → a < b → ⊥
       two {a} {b} f g l = facts.entered_free g.entered (f.between b l (omega (arith, g.since)))
 
-      pick : Compared q r → q ≡ r
-      pick (less l) = absurd (two v w l)
-      pick (same e) = e
-      pick (more m) = absurd (two w v m)
+      pick : (q ≡ r) ⊎ ((q < r) ⊎ (r < q)) → q ≡ r
+      pick (inl e) = e
+      pick (inr (inl l)) = absurd (two v w l)
+      pick (inr (inr m)) = absurd (two w v m)
 
 -- ---- the three sentences, for a choice of the running job
 
@@ -181,7 +181,7 @@ module _ (run : Run) (facts : Facts run) (policy : Policy run) where
     record {
       since = omega (arith, w.1.since, s.before);
       entered = w.1.entered;
-      between = λ r a b. pick r a b (compared m r);
+      between = λ r a b. pick r a b (cases_order m r);
     },
   )
     where
@@ -194,10 +194,10 @@ module _ (run : Run) (facts : Facts run) (policy : Policy run) where
       w : (q : ℕ) × Within run q m y
       w = holding_within run facts m y (facts.holding_released s.released after)
 
-      pick : (r : ℕ) → w.0 < r → r ≤ p → Compared m r → run.Holding r y
-      pick r a b (less l) = policy.holds (s.stands r l b)
-      pick r a b (same e) = w.1.between r a (omega arith)
-      pick r a b (more k) = w.1.between r a (omega arith)
+      pick : (r : ℕ) → w.0 < r → r ≤ p → (m ≡ r) ⊎ ((m < r) ⊎ (r < m)) → run.Holding r y
+      pick r a b (inl e) = w.1.between r a (omega arith)
+      pick r a b (inr (inl l)) = policy.holds (s.stands r l b)
+      pick r a b (inr (inr k)) = w.1.between r a (omega arith)
 
   pub blocked_entered : {p x y : ℕ} → Blocks run p x y → EntersBefore run p x y
   blocked_entered {p} {x} {y} b =
@@ -231,9 +231,9 @@ module _ (run : Run) (facts : Facts run) (policy : Policy run) where
       }
 
   pub blocked_same : {p r q s x y z : ℕ} → Blocks run p x y → Within run q p y → Blocks run r x z → Within run s r z → (y ≡ z) × (q ≡ s)
-  blocked_same {p} {r} {q} {s} {x} {y} {z} b v c w = pick (compared p r)
+  blocked_same {p} {r} {q} {s} {x} {y} {z} b v c w = pick (cases_order p r)
     where
-      pick : Compared p r → (y ≡ z) × (q ≡ s)
-      pick (less l) = blocked_same_later (omega arith) b v c w
-      pick (same e) = blocked_same_later (omega arith) b v c w
-      pick (more m) = let t = blocked_same_later (omega arith) c w b v in (sym t.0, sym t.1)
+      pick : (p ≡ r) ⊎ ((p < r) ⊎ (r < p)) → (y ≡ z) × (q ≡ s)
+      pick (inl e) = blocked_same_later (omega arith) b v c w
+      pick (inr (inl l)) = blocked_same_later (omega arith) b v c w
+      pick (inr (inr m)) = let t = blocked_same_later (omega arith) c w b v in (sym t.0, sym t.1)

@@ -5,6 +5,7 @@ use mathlib.Core.Bool.{Bool, true, false, true≢false}
 use mathlib.Core.List.{List}
 use mathlib.Core.Logic.{◌⊎◌, inl, inr, ◌≢◌}
 use native.Mathlib.Omega.{arith}
+use Rattle.std.proofs.lemmas.Bool.{cases_eq}
 use Rattle.table.specs.Limits.{most_tasks}
 use Rattle.table.specs.Table.{Table, tasks_of}
 use Rattle.table.specs.Check.{nothing_held}
@@ -13,7 +14,7 @@ use Rattle.machine.specs.declared.Job.{Job}
 use Rattle.dispatch.specs.declared.State.{State}
 use Rattle.runs.specs.Run.{Event}
 use Rattle.demand3.specs.Demand3.{state_at, held, Ready, Running, Released, Holding, Entered}
-use Rattle.machine.proofs.Rows.{Changed, same_or_not}
+use Rattle.machine.proofs.Rows.{Changed}
 use Rattle.demand3.proofs.Events.{Good, Releasing, Stepping, Passed, quiet, releasing, stepping, passed}
 use Rattle.demand3.proofs.Ready.{ready_before, held_before_lem, table_next, one_task_lem, runner_ready}
 
@@ -34,7 +35,7 @@ module _ (ws : List ℕ) (events : List Event) (table : Table) (tasks : tasks_of
   }
 
   holding_new : (p y : ℕ) → Releasing ws events p → Holding (state_at ws events (suc p)) y → Holding (state_at ws events p) y
-  holding_new p y r h = elim (same_or_not h.task r.task) [
+  holding_new p y r h = elim (cases_eq h.task r.task) [
     | inl e ↦ absurd (true≢false (sym (new_free p r) ∙ (rw e at h.something)))
     | inr n ↦ holding_other p y h r.changes n
   ]
@@ -75,7 +76,7 @@ module _ (ws : List ℕ) (events : List Event) (table : Table) (tasks : tasks_of
       pick : Passed ws events p → (Holding (state_at ws events p) y) ⊎ (Entered ws events p y × ((j : ℕ) × Running (state_at ws events p) j y))
       pick (quiet q) = inl (rw q.same at h)
       pick (releasing r) = inl (holding_new p y r h)
-      pick (stepping st) = elim (same_or_not h.task st.task) [
+      pick (stepping st) = elim (cases_eq h.task st.task) [
         | inl e ↦ steps st e (nothing_held (held (state_at ws events p) st.task)) refl
         | inr n ↦ inl (holding_other p y h st.changes n)
       ]

@@ -7,6 +7,7 @@ use mathlib.Core.Logic.{◌⊎◌, inl, inr, ◌≢◌}
 use native.Mathlib.Omega.{arith}
 use native.Mathlib.Decide.{dec_lt}
 use native.Mathlib.Nat.{le_refl, eq-or-lt_of_le}
+use Rattle.std.proofs.lemmas.Bool.{cases_eq}
 use Rattle.sets.proofs.Digit.{has_zero}
 use Rattle.table.specs.Limits.{most_tasks}
 use Rattle.table.specs.Table.{Table, tasks_of}
@@ -16,7 +17,7 @@ use Rattle.dispatch.specs.State.{table_in}
 use Rattle.dispatch.specs.declared.State.{State}
 use Rattle.runs.specs.Run.{Event}
 use Rattle.demand3.specs.Demand3.{state_at, held, Ready, Running, Released}
-use Rattle.machine.proofs.Rows.{Changed, same_or_not}
+use Rattle.machine.proofs.Rows.{Changed}
 use Rattle.demand3.proofs.States.{state_first}
 use Rattle.demand3.proofs.Events.{Good, Releasing, Stepping, Passed, quiet, releasing, stepping, passed}
 
@@ -139,5 +140,5 @@ module _ (ws : List ℕ) (events : List Event) (table : Table) (tasks : tasks_of
 
       pick : Passed ws events p → (Known (state_at ws events p) x d) ⊎ (Released ws events p x)
       pick (quiet q) = inl (rw q.same at h)
-      pick (releasing r) = elim (same_or_not i r.task) [ inl e ↦ inr (new r e) | inr n ↦ inl (other r.changes n) ]
-      pick (stepping st) = elim (same_or_not i st.task) [ inl e ↦ inl (old st e) | inr n ↦ inl (other st.changes n) ]
+      pick (releasing r) = elim (cases_eq i r.task) [ inl e ↦ inr (new r e) | inr n ↦ inl (other r.changes n) ]
+      pick (stepping st) = elim (cases_eq i st.task) [ inl e ↦ inl (old st e) | inr n ↦ inl (other st.changes n) ]

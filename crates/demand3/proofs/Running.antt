@@ -3,13 +3,13 @@ use Prim.Native.Nat.{ℕ, suc, ◌≤◌}
 use mathlib.Core.Path.{◌≡◌, sym, ap, ◌∙◌}
 use mathlib.Core.List.{List}
 use mathlib.Core.Logic.{◌⊎◌, inl, inr}
+use Rattle.std.specs.Prelude.{Some}
 use Rattle.numbers.proofs.Tests.{never}
 use Rattle.table.specs.Limits.{most_tasks}
 use Rattle.table.specs.Table.{Table, tasks_of}
 use Rattle.machine.specs.Order.{row_of}
 use Rattle.machine.specs.Reply.{runs, idle}
 use Rattle.machine.specs.Machine.{turn_of}
-use Rattle.machine.specs.declared.Who.TheVariants.{Runs}
 use Rattle.runs.specs.Run.{Event}
 use Rattle.demand3.specs.Demand3.{state_at, Running, Named}
 use Rattle.machine.proofs.Turn.{turn_runs, turn_told}
@@ -18,7 +18,7 @@ use Rattle.demand3.proofs.Ready.{runner_ready}
 
 module _ (ws : List ℕ) (events : List Event) (table : Table) (tasks : tasks_of table ≤ most_tasks)
     (good : (p : ℕ) → Good table (state_at ws events p)) where
-  runs_same : {i j : ℕ} → Runs i ≡ Runs j → i ≡ j
+  runs_same : {i j : ℕ} → Some i ≡ Some j → i ≡ j
   runs_same e = cc
 
   pub runs_one : (p x y : ℕ) → ((i : ℕ) × Running (state_at ws events p) i x) → ((j : ℕ) × Running (state_at ws events p) j y) → x ≡ y

@@ -9,6 +9,7 @@ use native.Mathlib.Nat.{lt_of_lt_of_le}
 use native.Mathlib.Omega.{arith}
 use lib.Dec.{leb}
 use borrow.Author.Tests.{leb-true, leb-false}
+use Rattle.std.specs.Prelude.{Option, Some, None}
 use Rattle.sets.specs.Member.{has}
 use Rattle.sets.proofs.Digit.{has_zero, same_everywhere}
 use Rattle.table.specs.Limits.{most_tasks}
@@ -20,8 +21,6 @@ use Rattle.machine.specs.Order.{Sooner, by_release, Earlier, row_of, who_runs}
 use Rattle.machine.specs.Machine.{held_of}
 use Rattle.machine.specs.declared.Job.{Job}
 use Rattle.machine.specs.declared.Kept.{Kept}
-use Rattle.machine.specs.declared.Who.{Who}
-use Rattle.machine.specs.declared.Who.TheVariants.{Runs, Nobody}
 use Rattle.machine.proofs.Order.{who_ready, who_least, who_nobody}
 use Rattle.machine.proofs.Sooner.{sooner_one_way, sooner_lower, sooner_higher}
 use Rattle.machine.proofs.Rows.{held_in}
@@ -53,25 +52,25 @@ module _ {table : Table} (valid : Valid table) {kept : Kept} (shape : Shape tabl
   ready_row : (j : ℕ) → has kept.ready j ≡ true → j < most_tasks
   ready_row j h = lt_of_lt_of_le (shape.going j h).below valid.tasks_most
 
-  pub runs_first : (i j : ℕ) → who_runs kept ≡ Runs i → j ≢ i → has kept.ready j ≡ true →
+  pub runs_first : (i j : ℕ) → who_runs kept ≡ Some i → j ≢ i → has kept.ready j ≡ true →
       Earlier (row_of kept i) (row_of kept j)
   runs_first i j e n h = who_least kept i j e (ready_row j h) h (shape.numbers j i n h (who_ready kept i e).1)
 
   -- So no section of another was entered before its active deadline.
-  pub runs_before : (i j : ℕ) → who_runs kept ≡ Runs i → j ≢ i → has kept.ready j ≡ true → {s : Section} {v : ℕ} →
+  pub runs_before : (i j : ℕ) → who_runs kept ≡ Some i → j ≢ i → has kept.ready j ≡ true → {s : Section} {v : ℕ} →
       Entry (row_of kept j).saved (held_of table kept j) (row_of kept j).active s v →
       Sooner v (row_of kept j).number (row_of kept i).active (row_of kept i).number → ⊥
   runs_before i j e n h entered before =
       sooner_one_way (runs_first i j e n h) (sooner_lower (entry_least (shape.going j h).stack entered) before)
 
   -- Somebody runs while somebody is ready.
-  pub someone_runs : kept.ready ≢ 0 → (i : ℕ) × (who_runs kept ≡ Runs i)
+  pub someone_runs : kept.ready ≢ 0 → (i : ℕ) × (who_runs kept ≡ Some i)
   someone_runs some = go (who_runs kept) refl
     where
-      nobody : who_runs kept ≡ Nobody → (j : ℕ) → (b : Bool) → has kept.ready j ≡ b → b ≡ false
+      nobody : who_runs kept ≡ None → (j : ℕ) → (b : Bool) → has kept.ready j ≡ b → b ≡ false
       nobody e j true h = absurd (true≢false (sym h ∙ who_nobody kept e j (ready_row j h)))
       nobody e j false h = refl
 
-      go : (who : Who) → who_runs kept ≡ who → (i : ℕ) × (who_runs kept ≡ Runs i)
-      go (Runs i) e = (i, e)
-      go Nobody e = absurd (some (same_everywhere kept.ready zero (λ j. nobody e j (has kept.ready j) refl ∙ sym (has_zero j))))
+      go : (who : Option ℕ) → who_runs kept ≡ who → (i : ℕ) × (who_runs kept ≡ Some i)
+      go (Some i) e = (i, e)
+      go None e = absurd (some (same_everywhere kept.ready zero (λ j. nobody e j (has kept.ready j) refl ∙ sym (has_zero j))))

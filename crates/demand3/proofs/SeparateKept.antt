@@ -6,6 +6,7 @@ use mathlib.Core.Logic.{◌≢◌, ◌⊎◌, inl, inr}
 use mathlib.Core.Bool.{true, true≢false}
 use mathlib.Core.List.{List, []}
 use native.Mathlib.Omega.{arith}
+use Rattle.std.specs.Prelude.{Some}
 use Rattle.sets.specs.Member.{has}
 use Rattle.sets.proofs.Digit.{has_zero}
 use Rattle.table.specs.Table.{Table, task_of}
@@ -18,7 +19,6 @@ use Rattle.machine.specs.Order.{Sooner, row_of, who_runs}
 use Rattle.machine.specs.Reply.{EventReply}
 use Rattle.machine.specs.Machine.{next_in, held_of, released, locked, unlocked, cleared, fresh}
 use Rattle.machine.specs.declared.Kept.{Kept}
-use Rattle.machine.specs.declared.Who.TheVariants.{Runs}
 use Rattle.machine.proofs.Order.{who_ready}
 use Rattle.machine.proofs.Sooner.{sooner_lower, sooner_higher}
 use Rattle.runs.specs.Run.{Event}
@@ -50,7 +50,7 @@ module _ {table : Table} (valid : Valid table) {kept : Kept} (shape : Shape tabl
         (λ j k u v n h g. sep.pair j k n h g);
   }
 
-  module _ (i : ℕ) (runs : who_runs kept ≡ Runs i) where
+  module _ (i : ℕ) (runs : who_runs kept ≡ Some i) where
     there : has kept.ready i ≡ true
     there = (who_ready kept i runs).1
 

@@ -3,7 +3,7 @@
 -- A run is a fresh start and any list of events, refused ones included. Position p is after the first p events; event p, counted from 0, leads from position p
 -- to position p + 1. A job goes by its release number, since a task has many jobs over time.
 -- The statement asks nothing of C, of the sections' lengths or of the times between events. Assumes nothing.
-use Rattle.std.specs.Prelude.{ℕ, suc, ◌≤◌, ◌<◌, ◌≡◌, true, false, List, ◌⊎◌, length, get_or, take}
+use Rattle.std.specs.Prelude.{ℕ, suc, ◌≤◌, ◌<◌, ◌≡◌, true, false, List, ◌⊎◌, length, get_or, take, Some}
 use Rattle.sets.specs.Member.{has}
 use Rattle.table.specs.Table.{tasks_of}
 use Rattle.table.specs.Check.{nothing_held}
@@ -13,7 +13,6 @@ use Rattle.machine.specs.Reply.{Turn, runs, idle, EventReply, refused, went_on, 
 use Rattle.numbers.specs.Answers.{TORN, BACK, END, HELD}
 use Rattle.machine.specs.Machine.{held_of}
 use Rattle.machine.specs.declared.Job.{Job}
-use Rattle.machine.specs.declared.Who.TheVariants.{Runs}
 use Rattle.dispatch.specs.State.{table_in}
 use Rattle.dispatch.specs.declared.State.{State}
 use Rattle.runs.specs.Run.{Event, release, step, heard, state_after, begin}
@@ -38,7 +37,7 @@ pub record Ready (s : State) (i x : ℕ) : Type 0 where
 
 -- The job with release number y is the running one, and is task j's.
 pub record Running (s : State) (j y : ℕ) : Type 0 where
-  pub runs : who_runs s.kept ≡ Runs j
+  pub runs : who_runs s.kept ≡ Some j
   pub number : (row_of s.kept j).number ≡ y
 
 -- "the order by base deadline and then release"

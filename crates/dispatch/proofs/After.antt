@@ -7,22 +7,20 @@ use Rattle.sets.specs.Member.{width, with_of, without_of}
 use Rattle.table.specs.Table.{Table, task_of}
 use Rattle.table.specs.Floor.{floor_of}
 use Rattle.machine.specs.Order.{row_of}
-use Rattle.machine.specs.Reply.{Turn, went_on, finished}
+use Rattle.machine.specs.Reply.{Turn}
 use Rattle.machine.specs.Fields.{with_clock, with_count, with_ready, with_had, with_row}
 use Rattle.machine.specs.Machine.{turn_of, new_job, no_job_since, released, held_of, lowered, locked, restored, unlocked, cleared}
 use Rattle.machine.specs.Moves.{Outcome}
 use Rattle.machine.specs.declared.Job.{Job}
 use Rattle.machine.specs.declared.Kept.{Kept}
-use Rattle.dispatch.specs.Parts.{goes_on, goes_on_late}
+use Rattle.dispatch.specs.Heard.{went_with}
+use Rattle.dispatch.specs.Parts.{goes_on}
+use Rattle.std.specs.Prelude.{Option}
 
 -- ---- what is answered
 
-pub went_on_lem : (kept : Kept) (turn : Turn) → turn ≡ turn_of kept → ◌≡◌ {A = Outcome} (record { kept = kept; said = went_on turn }) (goes_on kept)
-went_on_lem kept turn e = rw e
-
-pub went_late : (kept : Kept) (late late' : ℤ) (turn : Turn) → late' ≡ late → turn ≡ turn_of kept →
-    ◌≡◌ {A = Outcome} (record { kept = kept; said = finished late' turn }) (goes_on_late late kept)
-went_late kept late late' turn f e = rw (f, e)
+pub went_is : (kept : Kept) (late : Option ℤ) (turn : Turn) → turn ≡ turn_of kept → ◌≡◌ {A = Outcome} (record { kept = kept; said = went_with late turn }) (goes_on late kept)
+went_is kept late turn e = rw e
 
 -- ---- what is kept
 

@@ -19,7 +19,7 @@ use Rattle.machine.specs.Reply.{Turn, EventReply, finished, Accepted}
 use Rattle.machine.specs.Machine.{turn_of, no_job_since, next_in, cleared, lateness}
 use Rattle.machine.specs.Moves.{Outcome, step_move, carried_out}
 use Rattle.machine.specs.declared.Kept.{Kept}
-use Rattle.machine.specs.declared.Who.TheVariants.{Runs}
+use Rattle.std.specs.Prelude.{Some}
 use Rattle.machine.proofs.Order.{who_ready}
 use Rattle.machine.proofs.Rows.{Changed, cleared_changes}
 use Rattle.machine.proofs.Moves.{accepted_step}
@@ -31,7 +31,7 @@ use Rattle.dispatch.proofs.Handed.{event_on}
 
 -- ---- an accepted step of the running job, whole
 
-pub step_went : (s : State) (i time : ℕ) → Accepted (dispatch.step_of s time).said → who_runs s.kept ≡ Runs i →
+pub step_went : (s : State) (i time : ℕ) → Accepted (dispatch.step_of s time).said → who_runs s.kept ≡ Some i →
     dispatch.step_of s time ≡ dispatch.after s (carried_out (table_in s) s.kept time (step_move i (next_in (table_in s) s.kept i)))
 unfolding dispatch.step_of
 step_went s i time ok e =
@@ -61,7 +61,7 @@ pub record Cleared (s : State) (i time : ℕ) (z : ℤ) (t : Turn) (after : Stat
   pub turn : t ≡ turn_of after.kept
 
 -- "A finish answers the lateness: time minus base deadline, signed." "A finish sets the job's numbers to zero, all but the task's last release."
-pub finish_clears : (s : State) (i time : ℕ) (late : ℤ) (turn : Turn) → length s.kept.rows ≡ most_tasks → who_runs s.kept ≡ Runs i →
+pub finish_clears : (s : State) (i time : ℕ) (late : ℤ) (turn : Turn) → length s.kept.rows ≡ most_tasks → who_runs s.kept ≡ Some i →
     (dispatch.step_of s time).said ≡ finished late turn → Cleared s i time late turn (dispatch.step_of s time).state
 unfolding cleared
 finish_clears s i time late turn rows who said = record {

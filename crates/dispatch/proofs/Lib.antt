@@ -3,6 +3,8 @@
 pub mod Late
 pub mod After
 pub mod Held
+pub mod Timely
+pub mod Told
 pub mod Grounds
 pub mod Store
 pub mod Begun

@@ -22,7 +22,7 @@ use Rattle.machine.specs.Moves.{to_release, carried_out}
 use Rattle.machine.specs.Away.{NoGround}
 use Rattle.machine.specs.declared.Job.{Job}
 use Rattle.machine.specs.declared.Kept.{Kept}
-use Rattle.machine.specs.declared.Who.TheVariants.{Runs}
+use Rattle.std.specs.Prelude.{Some}
 use Rattle.machine.proofs.Order.{who_first}
 use Rattle.machine.proofs.Given.{no_head, no_tail}
 use Rattle.machine.proofs.Rows.{Changed, released_changes}
@@ -125,7 +125,7 @@ new_job_before s i time deadline rows said j l h = go (ltb deadline (row_of s.ke
     told : turn_of (released (table_in s) s.kept i time) ≡ runs i deadline
     told = cc (ap (λ (heard : Heard). heard.said) (release_went s i time ok))
 
-    runs_new : who_runs after ≡ Runs i
+    runs_new : who_runs after ≡ Some i
     runs_new = ap who_runs as_released ∙ (turn_told (released (table_in s) s.kept i time) i deadline told).0
 
     new_active : deadline ≡ (row_of after i).active

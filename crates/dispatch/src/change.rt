@@ -7,7 +7,7 @@ ghost use Rattle.machine.specs.Machine.{fresh as fresh_of, new_job, no_job_since
 use machine::{Job, Kept};
 use table::limits::{MOST_HELD, TASKS};
 
-// "A finish answers the lateness: time minus base deadline, signed."
+// "A finish answers the lateness: time minus base deadline, signed." Both are below 2^41, so either is as a signed number what it was.
 pub(crate) fn late(time: u64, base: u64) -> i64
     requires { (time < 2 ^ 41) × (base < 2 ^ 41) }
     ensures { result ≡ lateness time base }
@@ -47,44 +47,54 @@ pub(crate) fn fresh() -> Kept
 pub(crate) fn new_job(deadline: u64, number: u64, time: u64) -> Job
     ensures { result ≡ new_job deadline number time }
 {
-    let mut job = no_job(time);
-    job.base = deadline;
-    job.active = deadline;
-    job.number = number;
-    job
+    Job {
+        base: deadline,
+        active: deadline,
+        number,
+        ..no_job(time)
+    }
 }
 
 // "A lock at time t sets the active deadline to the smaller of its present value and t + floor." The value from before goes into the slot of its depth.
-pub(crate) fn lower(job: Job, depth: usize, deadline: u64) -> Job
-    requires { (depth < most_held) × (job.place + 1 < 2 ^ 32) }
-    ensures { result ≡ lowered depth deadline job }
+pub(crate) fn lower(job: &Job, depth: usize, deadline: u64) -> Job
+    requires { (depth < most_held) × (job.now.place + 1 < 2 ^ 32) }
+    ensures { result ≡ lowered depth deadline job.now }
 {
-    let mut next = job;
-    next.saved[depth] = job.active;
-    next.active = numbers::lesser_u64(job.active, deadline);
-    next.place = job.place + 1;
-    next
+    let mut saved = job.saved;
+    saved[depth] = job.active;
+    Job {
+        active: job.active.min(deadline),
+        place: job.place + 1,
+        saved,
+        ..*job
+    }
 }
 
 // "The unlock brings back the value from before that lock." Its slot is free again.
-pub(crate) fn restore(job: Job, slot: usize) -> Job
-    requires { (slot < most_held) × (job.place + 1 < 2 ^ 32) }
-    ensures { result ≡ restored slot job }
+pub(crate) fn restore(job: &Job, slot: usize) -> Job
+    requires { (slot < most_held) × (job.now.place + 1 < 2 ^ 32) }
+    ensures { result ≡ restored slot job.now }
 {
-    let mut next = job;
-    next.active = job.saved[slot];
-    next.saved[slot] = 0;
-    next.place = job.place + 1;
-    next
+    let mut saved = job.saved;
+    saved[slot] = 0;
+    Job {
+        active: job.saved[slot],
+        place: job.place + 1,
+        saved,
+        ..*job
+    }
 }
 
 // One row changed. "An accepted event sets the clock to its time."
-pub(crate) fn with_row(kept: Kept, time: u64, task: u32, job: Job) -> Kept
+pub(crate) fn with_row(kept: &Kept, time: u64, task: u32, job: Job) -> Kept
     requires { task < most_tasks }
-    ensures { result ≡ with_clock time (with_row task job kept) }
+    ensures { result ≡ with_clock time (with_row task job kept.now) }
 {
-    let mut next = kept;
-    next.clock = time;
-    next.rows[task as usize] = job;
-    next
+    let mut rows = kept.rows;
+    rows[task as usize] = job;
+    Kept {
+        clock: time,
+        rows,
+        ..*kept
+    }
 }

@@ -12,37 +12,31 @@ fn stored(words: &[u32]) -> [u32; ROOM]
     requires { length words.now ≤ room }
     ensures { result ≡ padded room words.now }
 {
-    let mut list = [0u32; ROOM];
-    let mut i: usize = 0;
-    while i < words.len() {
-        list[i] = words[i];
-        i += 1;
-    }
-    list
+    let mut room = [0; ROOM];
+    room[..words.len()].copy_from_slice(words);
+    room
 }
 
+#[tactic(auto, unfolding(crate::specs::State::fresh_state))]
 pub(crate) fn fresh(words: &[u32]) -> State
     requires { length words.now ≤ room }
     ensures { result ≡ fresh_state words.now (length words.now) }
 {
-    let list = stored(words);
-    let kept = change::fresh();
     State {
-        words: list,
+        words: stored(words),
         length: words.len(),
-        kept,
+        kept: change::fresh(),
     }
 }
 
 // "a state whose numbers are all zero"
+#[tactic(auto, unfolding(crate::specs::State::zero_state))]
 pub(crate) fn zero() -> State
     ensures { result ≡ zero_state }
 {
-    let list = [0u32; ROOM];
-    let kept = change::fresh();
     State {
-        words: list,
+        words: [0; ROOM],
         length: 0,
-        kept,
+        kept: change::fresh(),
     }
 }

@@ -1,4 +1,3 @@
 -- Laws of the lines.
-pub mod Sign
+pub mod Behind
 pub mod Members
-pub mod Names

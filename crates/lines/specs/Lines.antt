@@ -3,7 +3,7 @@
 use Rattle.std.specs.Prelude.{ℕ, cond, ◌||◌, List, [], ◌∷◌, ◌++◌, eqb}
 use Prim.Native.String.{String}
 use Rattle.numbers.specs.Answers.{FITS, LATE, HEAVY, LONG, name_of}
-use Rattle.sets.specs.Member.{width, has, members}
+use Rattle.sets.specs.Member.{width, members}
 use Rattle.table.specs.Said as table
 use Rattle.machine.specs.Reply as reply
 use Rattle.verdict.specs.Verdict as verdict
@@ -73,10 +73,6 @@ wrong_text number fault = labelled "line " number ++ bytes ": " ++ fault_text fa
 -- `clock 9`
 abbrev pub clock_text : ℕ → List ℕ
 clock_text time = labelled "clock " time
-
--- One member of a set, if it is one: a blank before it.
-abbrev pub member_text : ℕ → ℕ → List ℕ
-member_text held k = cond (has held k) (labelled " " k) []
 
 -- "`holds` lists the resources that the job holds, by rising number with a blank between them, or says `nothing`.": a blank before each.
 unfoldable pub each_text : List ℕ → List ℕ

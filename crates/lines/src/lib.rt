@@ -2,6 +2,8 @@
 // every buffer.
 #![tactic(auto)]
 
+mod pen;
+mod texts;
 pub mod write;
 
 // What a job does next, with the resource that it locks or unlocks.

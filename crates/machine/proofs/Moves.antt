@@ -6,6 +6,7 @@ use mathlib.Core.Path.{◌≡◌, refl, sym, ap, ◌∙◌}
 use mathlib.Core.Bool.{Bool, true, false, true≢false}
 use lib.Dec.{ltb, leb}
 use borrow.Author.Tests.{le-ltb, lt-leb, ltb-false, leb-false}
+use Rattle.std.specs.Prelude.{Option, Some, None}
 use Rattle.sets.specs.Member.{has}
 use Rattle.numbers.specs.Answers.{HELD}
 use Rattle.numbers.proofs.Any.{any_false, any_hit}
@@ -20,8 +21,6 @@ use Rattle.machine.specs.Machine.{released, locked, unlocked, cleared, lateness,
 use Rattle.machine.specs.Moves.{Move, to_release, to_lock, to_unlock, to_finish, Outcome, carried_out, running, step_move, next_move, move_of, accepted}
 use Rattle.machine.specs.Away.{Given, here, later, NoGround, more, none, turned_away, early, release_grounds, none_ready, held_by_another, next_held, locks_held_by, locks_held, grounds_of, event_in}
 use Rattle.machine.specs.declared.Kept.{Kept}
-use Rattle.machine.specs.declared.Who.{Who}
-use Rattle.machine.specs.declared.Who.TheVariants.{Runs, Nobody}
 use Rattle.machine.proofs.Order.{who_nobody, who_ready}
 use Rattle.machine.proofs.Given.{given_none, given_number}
 
@@ -64,38 +63,38 @@ pub accepted_release : (table : Table) (kept : Kept) (i time : ℕ) →
 unfolding accepted
 accepted_release table kept i time = refl
 
-pub accepted_step : (table : Table) (kept : Kept) (i time : ℕ) (next : Next) → who_runs kept ≡ Runs i → next_in table kept i ≡ next →
+pub accepted_step : (table : Table) (kept : Kept) (i time : ℕ) (next : Next) → who_runs kept ≡ Some i → next_in table kept i ≡ next →
     accepted table kept (step time) ≡ carried_out table kept time (step_move i next)
 unfolding accepted
 accepted_step table kept i time next e f =
-    ap (λ (who : Who). carried_out table kept time (next_move table kept (running who))) e
+    ap (λ (who : Option ℕ). carried_out table kept time (next_move table kept (running who))) e
     ∙ ap (λ (n : Next). carried_out table kept time (step_move i n)) f
 
 -- ---- NOBODY and HELD, by who runs
 
-pub none_ready_lem : (kept : Kept) → who_runs kept ≡ Nobody → none_ready kept ≡ true
+pub none_ready_lem : (kept : Kept) → who_runs kept ≡ None → none_ready kept ≡ true
 unfolding none_ready
 none_ready_lem kept e = rw (any_false most_tasks (λ j. has kept.ready j) (who_nobody kept e))
 
-pub some_ready : (kept : Kept) (i : ℕ) → who_runs kept ≡ Runs i → none_ready kept ≡ false
+pub some_ready : (kept : Kept) (i : ℕ) → who_runs kept ≡ Some i → none_ready kept ≡ false
 unfolding none_ready
 some_ready kept i e = rw (any_hit most_tasks i (λ j. has kept.ready j) (who_ready kept i e).0 (who_ready kept i e).1)
 
-pub someone : (kept : Kept) → none_ready kept ≡ false → (i : ℕ) × (who_runs kept ≡ Runs i)
+pub someone : (kept : Kept) → none_ready kept ≡ false → (i : ℕ) × (who_runs kept ≡ Some i)
 someone kept h = go (who_runs kept) refl
   where
-    go : (who : Who) → who_runs kept ≡ who → (i : ℕ) × (who_runs kept ≡ Runs i)
-    go Nobody e = absurd (true≢false (sym (none_ready_lem kept e) ∙ h))
-    go (Runs i) e = (i, e)
+    go : (who : Option ℕ) → who_runs kept ≡ who → (i : ℕ) × (who_runs kept ≡ Some i)
+    go None e = absurd (true≢false (sym (none_ready_lem kept e) ∙ h))
+    go (Some i) e = (i, e)
 
-pub nobody : (kept : Kept) → none_ready kept ≡ true → who_runs kept ≡ Nobody
+pub nobody : (kept : Kept) → none_ready kept ≡ true → who_runs kept ≡ None
 nobody kept h = go (who_runs kept) refl
   where
-    go : (who : Who) → who_runs kept ≡ who → who_runs kept ≡ Nobody
-    go Nobody e = e
-    go (Runs i) e = absurd (true≢false (sym h ∙ some_ready kept i e))
+    go : (who : Option ℕ) → who_runs kept ≡ who → who_runs kept ≡ None
+    go None e = e
+    go (Some i) e = absurd (true≢false (sym h ∙ some_ready kept i e))
 
-pub next_held_lem : (table : Table) (kept : Kept) (i : ℕ) (next : Next) (b : Bool) → who_runs kept ≡ Runs i → next_in table kept i ≡ next →
+pub next_held_lem : (table : Table) (kept : Kept) (i : ℕ) (next : Next) (b : Bool) → who_runs kept ≡ Some i → next_in table kept i ≡ next →
     next_held table kept i next ≡ b → locks_held table kept ≡ b
 unfolding locks_held
 next_held_lem table kept i next b e f h = ap (locks_held_by table kept) e ∙ ap (next_held table kept i) f ∙ h
@@ -106,7 +105,7 @@ pub release_carried : (table : Table) (kept : Kept) (i time : ℕ) → NoGround 
     carried_out table kept time (to_release i) ≡ event_in table kept (release i time)
 release_carried table kept i time n = sym (event_on table kept (release i time) n ∙ accepted_release table kept i time)
 
-module _ (table : Table) (kept : Kept) (i time : ℕ) (back : kept.clock ≤ time) (end : time < end_of_time) (who : who_runs kept ≡ Runs i) where
+module _ (table : Table) (kept : Kept) (i time : ℕ) (back : kept.clock ≤ time) (end : time < end_of_time) (who : who_runs kept ≡ Some i) where
   pub step_held : (next : Next) → next_in table kept i ≡ next → next_held table kept i next ≡ true → turned_away kept HELD ≡ event_in table kept (step time)
   step_held next f h =
       sym (event_away table kept (step time) HELD
@@ -124,7 +123,7 @@ pub record LocksHeld (table : Table) (kept : Kept) : Type 0 where
   pub task : ℕ
   pub resource : ℕ
   pub length : ℕ
-  pub runs : who_runs kept ≡ Runs task
+  pub runs : who_runs kept ≡ Some task
   pub next : next_in table kept task ≡ Lock resource length
   pub held : held_by_another table kept task resource ≡ true
 
@@ -132,20 +131,20 @@ pub held_by_whom : (table : Table) (kept : Kept) → locks_held table kept ≡ t
 unfolding locks_held
 held_by_whom table kept h = by_who (who_runs kept) refl h
   where
-    by_next : (i : ℕ) → who_runs kept ≡ Runs i → (next : Next) → next_in table kept i ≡ next → next_held table kept i next ≡ true → LocksHeld table kept
+    by_next : (i : ℕ) → who_runs kept ≡ Some i → (next : Next) → next_in table kept i ≡ next → next_held table kept i next ≡ true → LocksHeld table kept
     by_next i e (Lock r l) f h = record { task = i; resource = r; length = l; runs = e; next = f; held = h }
     by_next i e Unlock f h = absurd (true≢false (sym h))
     by_next i e Finish f h = absurd (true≢false (sym h))
 
-    by_who : (who : Who) → who_runs kept ≡ who → locks_held_by table kept who ≡ true → LocksHeld table kept
-    by_who (Runs i) e h = by_next i e (next_in table kept i) refl h
-    by_who Nobody e h = absurd (true≢false (sym h))
+    by_who : (who : Option ℕ) → who_runs kept ≡ who → locks_held_by table kept who ≡ true → LocksHeld table kept
+    by_who (Some i) e h = by_next i e (next_in table kept i) refl h
+    by_who None e h = absurd (true≢false (sym h))
 
 -- ---- the moves, with what each has passed
 
 -- "'runs' with task number and active deadline, or 'idle'", for any choice of who runs
-abbrev pub turn_by : (Kept → Who) → Kept → Turn
-turn_by who kept = elim (who kept) [ Runs i ↦ runs i (row_of kept i).active | Nobody ↦ idle ]
+abbrev pub turn_by : (Kept → Option ℕ) → Kept → Turn
+turn_by who kept = elim (who kept) [ Some i ↦ runs i (row_of kept i).active | None ↦ idle ]
 
 -- A time that is neither BACK nor END.
 pub record Timely (kept : Kept) (time : ℕ) : Type 0 where
@@ -160,12 +159,12 @@ pub record Releasable (table : Table) (kept : Kept) (i time : ℕ) : Type 0 wher
   pub apart : early table kept i time ≡ false
 
 -- A step of the running job, which is task i's, that comes in time.
-pub record Stepped (who : Kept → Who) (kept : Kept) (i time : ℕ) : Type 0 where
+pub record Stepped (who : Kept → Option ℕ) (kept : Kept) (i time : ℕ) : Type 0 where
   pub timely : Timely kept time
-  pub runs : who kept ≡ Runs i
+  pub runs : who kept ≡ Some i
 
 -- The accepted events: what is kept afterwards, and what is said.
-pub data Moving (who : Kept → Who) (table : Table) (kept : Kept) : Event → Kept → EventReply → Type 0 where
+pub data Moving (who : Kept → Option ℕ) (table : Table) (kept : Kept) : Event → Kept → EventReply → Type 0 where
   releases : (i time : ℕ) → Releasable table kept i time →
       Moving who table kept (release i time) (released table kept i time) (went_on (turn_by who (released table kept i time)))
   locks : (i r l time : ℕ) → Stepped who kept i time → next_in table kept i ≡ Lock r l → held_by_another table kept i r ≡ false →

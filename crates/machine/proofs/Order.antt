@@ -9,13 +9,12 @@ use mathlib.Core.Logic.{◌≢◌, inl, inr}
 use mathlib.Core.Bool.{Bool, true, false, true≢false, cond, ◌&&◌}
 use lib.Dec.{eqb}
 use borrow.Author.Tests.{eqb-true, eqb-false}
+use Rattle.std.specs.Prelude.{Option, Some, None}
 use Rattle.sets.specs.Member.{has}
 use Rattle.table.specs.Limits.{most_tasks}
 use Rattle.machine.specs.Order.{row_of, Earlier, is_earlier, better, best_from, who_runs}
 use Rattle.machine.specs.declared.Job.{Job}
 use Rattle.machine.specs.declared.Kept.{Kept}
-use Rattle.machine.specs.declared.Who.{Who}
-use Rattle.machine.specs.declared.Who.TheVariants.{Runs, Nobody}
 use Rattle.machine.proofs.Sooner.{sooner_test, test_sooner, sooner_trans, sooner_not, Ordered, before, itself, after, ordered}
 
 -- Of two jobs with different release numbers one is before the other.
@@ -34,12 +33,12 @@ pub record BestRow (kept : Kept) (k i : ℕ) : Type 0 where
   pub ready : has kept.ready i ≡ true
   pub least : (j : ℕ) → j < k → has kept.ready j ≡ true → Earlier (row_of kept j) (row_of kept i) → ⊥
 
-abbrev pub Best : Kept → ℕ → Who → Type 0
-Best kept k Nobody = (j : ℕ) → j < k → has kept.ready j ≡ false
-Best kept k (Runs i) = BestRow kept k i
+abbrev pub Best : Kept → ℕ → Option ℕ → Type 0
+Best kept k None = (j : ℕ) → j < k → has kept.ready j ≡ false
+Best kept k (Some i) = BestRow kept k i
 
 module _ (kept : Kept) (k : ℕ) where
-  first_best : Best kept k Nobody → has kept.ready k ≡ true → BestRow kept (suc k) k
+  first_best : Best kept k None → has kept.ready k ≡ true → BestRow kept (suc k) k
   first_best none r = record {
     below = omega arith;
     ready = r;
@@ -49,7 +48,7 @@ module _ (kept : Kept) (k : ℕ) where
     ];
   }
 
-  none_more : Best kept k Nobody → has kept.ready k ≡ false → Best kept (suc k) Nobody
+  none_more : Best kept k None → has kept.ready k ≡ false → Best kept (suc k) None
   none_more none r j l = elim (eq-or-lt_of_le (le_of_suc-le-suc l)) [ inr h ↦ none j h | inl e ↦ rw e r ]
 
   new_best : (b : ℕ) → BestRow kept k b → has kept.ready k ≡ true → Earlier (row_of kept k) (row_of kept b) → BestRow kept (suc k) k
@@ -72,21 +71,21 @@ module _ (kept : Kept) (k : ℕ) where
     ];
   }
 
-  best_more : (w : Who) → Best kept k w → Best kept (suc k) (better kept k w)
-  best_more Nobody best = go (has kept.ready k) refl
+  best_more : (w : Option ℕ) → Best kept k w → Best kept (suc k) (better kept k w)
+  best_more None best = go (has kept.ready k) refl
     where
-      go : (r : Bool) → has kept.ready k ≡ r → Best kept (suc k) (cond r (Runs k) Nobody)
+      go : (r : Bool) → has kept.ready k ≡ r → Best kept (suc k) (cond r (Some k) None)
       go true e = first_best best e
       go false e = none_more best e
-  best_more (Runs b) best = go (has kept.ready k) refl (is_earlier (row_of kept k) (row_of kept b)) refl
+  best_more (Some b) best = go (has kept.ready k) refl (is_earlier (row_of kept k) (row_of kept b)) refl
     where
       go : (r : Bool) → has kept.ready k ≡ r → (a : Bool) → is_earlier (row_of kept k) (row_of kept b) ≡ a →
-          Best kept (suc k) (cond (r && a) (Runs k) (Runs b))
+          Best kept (suc k) (cond (r && a) (Some k) (Some b))
       go true e true p = new_best b best e (sooner_test _ _ _ _ p)
       go true e false p = old_best b best (λ q f. true≢false (sym (test_sooner f) ∙ p))
       go false e a p = old_best b best (λ q f. true≢false (sym q ∙ e))
 
-best_all : (left i : ℕ) (kept : Kept) (w : Who) → Best kept i w → Best kept (i + left) (best_from left i kept w)
+best_all : (left i : ℕ) (kept : Kept) (w : Option ℕ) → Best kept i w → Best kept (i + left) (best_from left i kept w)
 unfolding best_from
 best_all zero i kept w best = subst (λ (k : ℕ). Best kept k w) (omega arith) best
 best_all (suc left) i kept w best =
@@ -95,46 +94,46 @@ best_all (suc left) i kept w best =
 
 pub best_of : (kept : Kept) → Best kept most_tasks (who_runs kept)
 unfolding who_runs
-best_of kept = best_all most_tasks zero kept Nobody (λ j l. absurd (not-suc-le-zero l))
+best_of kept = best_all most_tasks zero kept None (λ j l. absurd (not-suc-le-zero l))
 
 -- ---- the laws
 
-best_row : (kept : Kept) (i : ℕ) → who_runs kept ≡ Runs i → BestRow kept most_tasks i
-best_row kept i e = subst (λ (w : Who). Best kept most_tasks w) e (best_of kept)
+best_row : (kept : Kept) (i : ℕ) → who_runs kept ≡ Some i → BestRow kept most_tasks i
+best_row kept i e = subst (λ (w : Option ℕ). Best kept most_tasks w) e (best_of kept)
 
 -- Nobody runs exactly where no job is ready.
-pub who_nobody : (kept : Kept) → who_runs kept ≡ Nobody → (j : ℕ) → j < most_tasks → has kept.ready j ≡ false
-who_nobody kept e = subst (λ (w : Who). Best kept most_tasks w) e (best_of kept)
+pub who_nobody : (kept : Kept) → who_runs kept ≡ None → (j : ℕ) → j < most_tasks → has kept.ready j ≡ false
+who_nobody kept e = subst (λ (w : Option ℕ). Best kept most_tasks w) e (best_of kept)
 
-pub nobody_who : (kept : Kept) → ((j : ℕ) → j < most_tasks → has kept.ready j ≡ false) → who_runs kept ≡ Nobody
+pub nobody_who : (kept : Kept) → ((j : ℕ) → j < most_tasks → has kept.ready j ≡ false) → who_runs kept ≡ None
 nobody_who kept none = go (who_runs kept) (best_of kept)
   where
-    go : (w : Who) → Best kept most_tasks w → w ≡ Nobody
-    go Nobody best = refl
-    go (Runs i) best = absurd (true≢false (sym best.ready ∙ none i best.below))
+    go : (w : Option ℕ) → Best kept most_tasks w → w ≡ None
+    go None best = refl
+    go (Some i) best = absurd (true≢false (sym best.ready ∙ none i best.below))
 
 -- Who runs is a ready job of one of the sixteen rows.
-pub who_ready : (kept : Kept) (i : ℕ) → who_runs kept ≡ Runs i → (i < most_tasks) × (has kept.ready i ≡ true)
+pub who_ready : (kept : Kept) (i : ℕ) → who_runs kept ≡ Some i → (i < most_tasks) × (has kept.ready i ≡ true)
 who_ready kept i e = ((best_row kept i e).below, (best_row kept i e).ready)
 
 -- No ready job is before the one that runs.
-pub who_first : (kept : Kept) (i j : ℕ) → who_runs kept ≡ Runs i → j < most_tasks → has kept.ready j ≡ true → Earlier (row_of kept j) (row_of kept i) → ⊥
+pub who_first : (kept : Kept) (i j : ℕ) → who_runs kept ≡ Some i → j < most_tasks → has kept.ready j ≡ true → Earlier (row_of kept j) (row_of kept i) → ⊥
 who_first kept i j e = (best_row kept i e).least j
 
 -- It is before every other ready job: all whose release number is another.
-pub who_least : (kept : Kept) (i j : ℕ) → who_runs kept ≡ Runs i → j < most_tasks → has kept.ready j ≡ true →
+pub who_least : (kept : Kept) (i j : ℕ) → who_runs kept ≡ Some i → j < most_tasks → has kept.ready j ≡ true →
     (row_of kept j).number ≢ (row_of kept i).number → Earlier (row_of kept i) (row_of kept j)
 who_least kept i j e l r differ = either_earlier (row_of kept i) (row_of kept j) differ (who_first kept i j e l r)
 
 -- And a ready job that is before every other ready one is who runs.
 pub who_is : (kept : Kept) (i : ℕ) → i < most_tasks → has kept.ready i ≡ true →
-    ((j : ℕ) → j < most_tasks → has kept.ready j ≡ true → j ≢ i → Earlier (row_of kept i) (row_of kept j)) → who_runs kept ≡ Runs i
+    ((j : ℕ) → j < most_tasks → has kept.ready j ≡ true → j ≢ i → Earlier (row_of kept i) (row_of kept j)) → who_runs kept ≡ Some i
 who_is kept i l r least = go (who_runs kept) (best_of kept)
   where
     same : (b : ℕ) → BestRow kept most_tasks b → (t : Bool) → eqb b i ≡ t → b ≡ i
     same b best true e = eqb-true b i e
     same b best false e = absurd (best.least i l r (least b best.below best.ready (eqb-false b i e)))
 
-    go : (w : Who) → Best kept most_tasks w → w ≡ Runs i
-    go Nobody best = absurd (true≢false (sym r ∙ best i l))
-    go (Runs b) best = ap Runs (same b best (eqb b i) refl)
+    go : (w : Option ℕ) → Best kept most_tasks w → w ≡ Some i
+    go None best = absurd (true≢false (sym r ∙ best i l))
+    go (Some b) best = ap Some (same b best (eqb b i) refl)

@@ -5,10 +5,9 @@ use mathlib.Core.Path.{◌≡◌, refl, sym, ap, ◌∙◌}
 use mathlib.Core.Logic.{◌≢◌, ◌⊎◌, inl, inr}
 use mathlib.Core.Bool.{Bool, true, false}
 use mathlib.Core.List.{List}
-use lib.Dec.{eqb}
 use lib.ListN.{length}
 use lib.Seq.{get_or-set_same, get_or-set_other}
-use borrow.Author.Tests.{eqb-true, eqb-false}
+use Rattle.std.proofs.lemmas.Bool.{cases_eq}
 use Rattle.sets.specs.Member.{width, has}
 use Rattle.sets.proofs.Change.{has_with_same, has_with_other, has_without_same, has_without_other}
 use Rattle.table.specs.Table.{Table, task_of}
@@ -18,15 +17,6 @@ use Rattle.machine.specs.Order.{row_of, no_job}
 use Rattle.machine.specs.Machine.{no_job_since, new_job, held_of, lowered, restored, released, locked, unlocked, cleared}
 use Rattle.machine.specs.declared.Job.{Job}
 use Rattle.machine.specs.declared.Kept.{Kept}
-
--- ---- two numbers are the same or they differ
-
-pub same_or_not : (i j : ℕ) → (i ≡ j) ⊎ (i ≢ j)
-same_or_not i j = go (eqb i j) refl
-  where
-    go : (b : Bool) → eqb i j ≡ b → (i ≡ j) ⊎ (i ≢ j)
-    go true e = inl (eqb-true i j e)
-    go false e = inr (eqb-false i j e)
 
 -- ---- what a move changes
 
@@ -40,7 +30,7 @@ pub record Changed (kept next : Kept) (i : ℕ) (job : Job) (on : Bool) : Type 0
 module _ {kept next : Kept} {i : ℕ} {job : Job} {on : Bool} (c : Changed kept next i job on) where
   -- What holds of the changed row and of all others holds of all.
   pub rows_after : (P : ℕ → Job → Type 0) → P i job → ((j : ℕ) → j ≢ i → P j (row_of kept j)) → (j : ℕ) → P j (row_of next j)
-  rows_after P here there j = go (same_or_not j i)
+  rows_after P here there j = go (cases_eq j i)
     where
       go : (j ≡ i) ⊎ (j ≢ i) → P j (row_of next j)
       go (inl e) = rw (e, c.row) here
@@ -49,7 +39,7 @@ module _ {kept next : Kept} {i : ℕ} {job : Job} {on : Bool} (c : Changed kept 
   -- The same for the ready ones.
   pub ready_after : (P : ℕ → Job → Type 0) → (on ≡ true → P i job) →
       ((j : ℕ) → j ≢ i → has kept.ready j ≡ true → P j (row_of kept j)) → (j : ℕ) → has next.ready j ≡ true → P j (row_of next j)
-  ready_after P here there j h = go (same_or_not j i)
+  ready_after P here there j h = go (cases_eq j i)
     where
       go : (j ≡ i) ⊎ (j ≢ i) → P j (row_of next j)
       go (inl e) = rw (e, c.row) (here (sym c.bit ∙ ap (has next.ready) (sym e) ∙ h))

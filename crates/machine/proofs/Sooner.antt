@@ -1,12 +1,14 @@
 -- The order by a deadline and then the release number: its test, and that it is strict and total on jobs with different numbers. Assumes nothing.
 use Prim.Native.Nat.{ℕ, ◌≤◌, ◌<◌}
 use mathlib.Core.Path.{◌≡◌, refl}
+use mathlib.Core.Logic.{◌⊎◌, inl, inr}
 use mathlib.Core.Bool.{Bool, true, false, ◌&&◌, ◌||◌}
 use native.Mathlib.Omega.{arith}
-use native.Mathlib.Decide.{dec_lt}
 use lib.Dec.{ltb, eqb}
 use borrow.Author.Tests.{ltb-true, eqb-true, lt-ltb, eq-eqb}
-use Rattle.numbers.proofs.Tests.{never, or_left, or_right}
+use Rattle.std.proofs.lemmas.Bool.{cases_order}
+use Rattle.std.proofs.lemmas.Bool.{or_left, or_right}
+use Rattle.numbers.proofs.Tests.{never}
 use Rattle.machine.specs.Order.{Sooner, by_deadline, by_release, is_sooner}
 
 -- ---- the test
@@ -25,20 +27,6 @@ test_sooner {d} {x} {e} {y} (by_deadline h) = or_left (ltb d e) _ (lt-ltb _ _ h)
 test_sooner {d} {x} {e} {y} (by_release h k) = or_right (ltb d e) _ (rw (eq-eqb _ _ h, lt-ltb _ _ k) refl)
 
 -- ---- the order
-
--- Of two numbers one is less, or they are equal.
-pub data Compared (a b : ℕ) : Type 0 where
-  less : a < b → Compared a b
-  same : a ≡ b → Compared a b
-  more : b < a → Compared a b
-
-pub compared : (a b : ℕ) → Compared a b
-compared a b = first (dec_lt a b) (dec_lt b a)
-  where
-    first : Dec (a < b) → Dec (b < a) → Compared a b
-    first (yes h) k = less h
-    first (no g) (yes h) = more h
-    first (no g) (no h) = same (omega arith)
 
 pub sooner_trans : {d x e y f z : ℕ} → Sooner d x e y → Sooner e y f z → Sooner d x f z
 sooner_trans (by_deadline a) (by_deadline b) = by_deadline (omega arith)
@@ -61,22 +49,22 @@ sooner_one_way (by_release a h) (by_release b k) = omega arith
 -- A smaller deadline comes sooner still.
 pub sooner_lower : {c d x e y : ℕ} → c ≤ d → Sooner d x e y → Sooner c x e y
 sooner_lower {c} {d} le (by_deadline a) = by_deadline (omega arith)
-sooner_lower {c} {d} {x} {e} {y} le (by_release a h) = pick (compared c e)
+sooner_lower {c} {d} {x} {e} {y} le (by_release a h) = pick (cases_order c e)
   where
-    pick : Compared c e → Sooner c x e y
-    pick (less l) = by_deadline l
-    pick (same s) = by_release s h
-    pick (more m) = absurd (omega arith)
+    pick : (c ≡ e) ⊎ ((c < e) ⊎ (e < c)) → Sooner c x e y
+    pick (inl s) = by_release s h
+    pick (inr (inl l)) = by_deadline l
+    pick (inr (inr m)) = absurd (omega arith)
 
 -- A larger one to be compared with, too.
 pub sooner_higher : {d x e f y : ℕ} → e ≤ f → Sooner d x e y → Sooner d x f y
 sooner_higher le (by_deadline a) = by_deadline (omega arith)
-sooner_higher {d} {x} {e} {f} {y} le (by_release a h) = pick (compared d f)
+sooner_higher {d} {x} {e} {f} {y} le (by_release a h) = pick (cases_order d f)
   where
-    pick : Compared d f → Sooner d x f y
-    pick (less l) = by_deadline l
-    pick (same s) = by_release s h
-    pick (more m) = absurd (omega arith)
+    pick : (d ≡ f) ⊎ ((d < f) ⊎ (f < d)) → Sooner d x f y
+    pick (inl s) = by_release s h
+    pick (inr (inl l)) = by_deadline l
+    pick (inr (inr m)) = absurd (omega arith)
 
 -- Of two jobs one is before the other, or they are one.
 pub data Ordered (d x e y : ℕ) : Type 0 where
@@ -85,14 +73,14 @@ pub data Ordered (d x e y : ℕ) : Type 0 where
   after : Sooner e y d x → Ordered d x e y
 
 pub ordered : (d x e y : ℕ) → Ordered d x e y
-ordered d x e y = first (compared d e)
+ordered d x e y = first (cases_order d e)
   where
-    second : d ≡ e → Compared x y → Ordered d x e y
-    second s (less l) = before (by_release s l)
-    second s (same k) = itself k
-    second s (more m) = after (by_release (omega arith) m)
+    second : d ≡ e → (x ≡ y) ⊎ ((x < y) ⊎ (y < x)) → Ordered d x e y
+    second s (inl k) = itself k
+    second s (inr (inl l)) = before (by_release s l)
+    second s (inr (inr m)) = after (by_release (omega arith) m)
 
-    first : Compared d e → Ordered d x e y
-    first (less l) = before (by_deadline l)
-    first (same s) = second s (compared x y)
-    first (more m) = after (by_deadline m)
+    first : (d ≡ e) ⊎ ((d < e) ⊎ (e < d)) → Ordered d x e y
+    first (inl s) = second s (cases_order x y)
+    first (inr (inl l)) = before (by_deadline l)
+    first (inr (inr m)) = after (by_deadline m)

@@ -1,6 +1,6 @@
 -- "When an event is turned away" (document 01), from BACK on: the rows of its table are the definition. TORN speaks of the words too, and `dispatch` puts its
 -- row in front. Assumes nothing.
-use Rattle.std.specs.Prelude.{ℕ, ◌+◌, ◌≡◌, List, [], ◌∷◌, Bool, true, false, cond, not, ◌&&◌, ltb, leb, eqb}
+use Rattle.std.specs.Prelude.{ℕ, ◌+◌, ◌≡◌, List, [], ◌∷◌, Bool, true, false, cond, not, ◌&&◌, ltb, leb, eqb, Option, Some, None}
 use Rattle.sets.specs.Member.{has}
 use Rattle.numbers.specs.Any.{any_below}
 use Rattle.numbers.specs.Answers.{BACK, END, NOBODY, ACTIVE, EARLY, HELD}
@@ -15,8 +15,6 @@ use Rattle.machine.specs.Event.{Event, release, step}
 use Rattle.machine.specs.Machine.{held_of, next_in}
 use Rattle.machine.specs.Moves.{Outcome, accepted}
 use Rattle.machine.specs.declared.Kept.{Kept}
-use Rattle.machine.specs.declared.Who.{Who}
-use Rattle.machine.specs.declared.Who.TheVariants.{Runs, Nobody}
 
 -- A row of that table: the number, and whether its ground applies.
 pub record Ground : Type 0 where
@@ -77,9 +75,9 @@ next_held table kept i (Lock r l) = held_by_another table kept i r
 next_held table kept i Unlock = false
 next_held table kept i Finish = false
 
-abbrev pub locks_held_by : Table → Kept → Who → Bool
-locks_held_by table kept (Runs i) = next_held table kept i (next_in table kept i)
-locks_held_by table kept Nobody = false
+abbrev pub locks_held_by : Table → Kept → Option ℕ → Bool
+locks_held_by table kept (Some i) = next_held table kept i (next_in table kept i)
+locks_held_by table kept None = false
 
 unfoldable pub locks_held : Table → Kept → Bool
 locks_held table kept = locks_held_by table kept (who_runs kept)

@@ -1,6 +1,5 @@
 -- Document 01's machine over a table and what is kept: who is before whom, what each event does and answers, and when it is turned away.
 pub mod Order
-pub mod Leader
 pub mod Reply
 pub mod Event
 pub mod Fields

@@ -1,5 +1,5 @@
 -- Document 01's machine: what each of its rules does to what is kept, over a table. Assumes nothing.
-use Rattle.std.specs.Prelude.{ℕ, ◌+◌, ◌-◌, min, List, ℤ, pos, ◌-ℤ◌, length, get_or, set, replicate}
+use Rattle.std.specs.Prelude.{ℕ, ◌+◌, ◌-◌, min, List, ℤ, pos, ◌-ℤ◌, length, get_or, set, replicate, Some, None}
 use Rattle.sets.specs.Member.{width, with_of, without_of}
 use Rattle.table.specs.Limits.{most_tasks, most_held}
 use Rattle.table.specs.Table.{Table, task_of}
@@ -12,7 +12,6 @@ use Rattle.machine.specs.Reply.{Turn, runs, idle}
 use Rattle.machine.specs.Fields.{with_base, with_active, with_number, with_place, with_saved, with_clock, with_count, with_ready, with_had, with_row}
 use Rattle.machine.specs.declared.Job.{Job}
 use Rattle.machine.specs.declared.Kept.{Kept}
-use Rattle.machine.specs.declared.Who.TheVariants.{Runs, Nobody}
 
 -- Four saved deadlines, none in use.
 abbrev pub none_saved : List ℕ
@@ -89,4 +88,4 @@ lateness time base = pos time -ℤ pos base
 
 -- "'runs' with task number and active deadline, or 'idle'"
 unfoldable pub turn_of : Kept → Turn
-turn_of kept = elim (who_runs kept) [ Runs i ↦ runs i (row_of kept i).active | Nobody ↦ idle ]
+turn_of kept = elim (who_runs kept) [ Some i ↦ runs i (row_of kept i).active | None ↦ idle ]

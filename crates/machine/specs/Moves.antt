@@ -1,5 +1,5 @@
 -- The four moves of document 01's machine. An event that isn't turned away is one of them: the move, and then the turn. Assumes nothing.
-use Rattle.std.specs.Prelude.{ℕ}
+use Rattle.std.specs.Prelude.{ℕ, Option, Some, None}
 use Rattle.table.specs.Table.{Table}
 use Rattle.table.specs.declared.Next.{Next}
 use Rattle.table.specs.declared.Next.TheVariants.{Lock, Unlock, Finish}
@@ -8,8 +8,6 @@ use Rattle.machine.specs.Reply.{Turn, EventReply, went_on, finished}
 use Rattle.machine.specs.Event.{Event, release, step, time_of}
 use Rattle.machine.specs.Machine.{released, locked, unlocked, cleared, lateness, turn_of, next_in}
 use Rattle.machine.specs.declared.Kept.{Kept}
-use Rattle.machine.specs.declared.Who.{Who}
-use Rattle.machine.specs.declared.Who.TheVariants.{Runs, Nobody}
 
 -- Each with its task, and a lock with its resource.
 pub data Move : Type 0 where
@@ -45,9 +43,9 @@ carried_out table kept time move = record {
 }
 
 -- The running job's task. It is asked for only where a job is ready.
-abbrev pub running : Who → ℕ
-running (Runs i) = i
-running Nobody = 0
+abbrev pub running : Option ℕ → ℕ
+running (Some i) = i
+running None = 0
 
 abbrev pub step_move : ℕ → Next → Move
 step_move i (Lock r l) = to_lock i r

@@ -1,11 +1,9 @@
 -- Who is before whom, and who runs (document 01, "The machine's rules"). Assumes nothing.
-use Rattle.std.specs.Prelude.{ℕ, zero, suc, ◌<◌, ◌≡◌, Bool, cond, ◌&&◌, ◌||◌, [], ltb, eqb, get_or}
+use Rattle.std.specs.Prelude.{ℕ, zero, suc, ◌<◌, ◌≡◌, Bool, cond, ◌&&◌, ◌||◌, [], ltb, eqb, get_or, Option, Some, None}
 use Rattle.sets.specs.Member.{has}
 use Rattle.table.specs.Limits.{most_tasks}
 use Rattle.machine.specs.declared.Job.{Job}
 use Rattle.machine.specs.declared.Kept.{Kept}
-use Rattle.machine.specs.declared.Who.{Who}
-use Rattle.machine.specs.declared.Who.TheVariants.{Runs, Nobody}
 
 -- What stands in a row that isn't there.
 abbrev pub no_job : Job
@@ -33,15 +31,15 @@ abbrev pub is_earlier : Job → Job → Bool
 is_earlier x y = is_sooner x.active x.number y.active y.number
 
 -- Task i against the best so far: it has to be ready, and earlier.
-abbrev pub better : Kept → ℕ → Who → Who
-better kept i Nobody = cond (has kept.ready i) (Runs i) Nobody
-better kept i (Runs b) = cond (has kept.ready i && is_earlier (row_of kept i) (row_of kept b)) (Runs i) (Runs b)
+abbrev pub better : Kept → ℕ → Option ℕ → Option ℕ
+better kept i None = cond (has kept.ready i) (Some i) None
+better kept i (Some b) = cond (has kept.ready i && is_earlier (row_of kept i) (row_of kept b)) (Some i) (Some b)
 
 -- The best of `left` tasks from task i on and of the best before them.
-unfoldable pub best_from : ℕ → ℕ → Kept → Who → Who
+unfoldable pub best_from : ℕ → ℕ → Kept → Option ℕ → Option ℕ
 best_from zero i kept best = best
 best_from (suc left) i kept best = best_from left (suc i) kept (better kept i best)
 
 -- "The running job is the ready one with the earliest active deadline." That it is, by `Earlier`, is law `who_least` (proofs/Order).
-unfoldable pub who_runs : Kept → Who
-who_runs kept = best_from most_tasks 0 kept Nobody
+unfoldable pub who_runs : Kept → Option ℕ
+who_runs kept = best_from most_tasks 0 kept None

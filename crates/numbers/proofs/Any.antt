@@ -1,8 +1,7 @@
--- Laws of `any_below`: for a loop that counts up, and what it says either way.
+-- Laws of `any_below`: what it says either way.
 -- Assumes nothing.
-use Prim.Native.Nat.{ℕ, zero, suc, ◌+◌, ◌<◌, ◌≤◌}
+use Prim.Native.Nat.{ℕ, zero, suc, ◌<◌, ◌≤◌}
 use native.Mathlib.Nat.{not-suc-le-zero}
-use native.Mathlib.Numerals.{add-one}
 use native.Mathlib.Omega.{arith}
 use mathlib.Core.Path.{◌≡◌, refl, sym, ap, ap₂, subst, ◌∙◌}
 use mathlib.Core.Logic.{◌≢◌}
@@ -10,23 +9,16 @@ use mathlib.Core.Bool.{Bool, true, false, true≢false, ◌&&◌, ◌||◌, or_a
 use lib.Dec.{ltb, eqb}
 use borrow.Author.Tests.{lt-ltb, ltb-true, eqb-true, eqb-false}
 use Rattle.numbers.specs.Any.{any_below}
-use Rattle.numbers.proofs.Tests.{or_right, or_swap, and_fails}
+use Rattle.std.proofs.lemmas.Bool.{or_right}
+use Rattle.numbers.proofs.Tests.{or_swap, and_fails}
 
 any_suc : (n : ℕ) (test : ℕ → Bool) → any_below (suc n) test ≡ (any_below n test || test n)
 unfolding any_below
 any_suc n test = refl
 
--- ---- counting up
-
 pub any_none : (test : ℕ → Bool) → any_below zero test ≡ false
 unfolding any_below
 any_none test = refl
-
-pub any_more : (i : ℕ) (test : ℕ → Bool) → any_below i test ≡ false → test i ≡ false → any_below (i + 1) test ≡ false
-any_more i test e f = rw (add-one, any_suc, e, f)
-
-pub any_end : (n i : ℕ) (test : ℕ → Bool) → n ≤ i → i ≤ n → any_below i test ≡ false → any_below n test ≡ false
-any_end n i test l g e = subst (λ (k : ℕ). any_below k test ≡ false) (omega arith) e
 
 pub any_hit : (n i : ℕ) (test : ℕ → Bool) → i < n → test i ≡ true → any_below n test ≡ true
 any_hit zero i test l e = absurd (not-suc-le-zero l)

@@ -11,13 +11,6 @@ use borrow.Author.Tests.{eqb-true, eqb-false, eq-eqb, ne_eqb}
 pub never {ℓ} : {A : Type ℓ} → ◌≡◌ {A = ℕ} 0 1 → A
 never e = absurd (omega arith)
 
-pub or_left : (a b : Bool) → a ≡ true → (a || b) ≡ true
-or_left a b e = rw e
-
-pub or_right : (a b : Bool) → b ≡ true → (a || b) ≡ true
-or_right true b e = refl
-or_right false b e = e
-
 -- The order of two tests doesn't count.
 pub or_swap : (a b c : Bool) → (a || (b || c)) ≡ (b || (a || c))
 or_swap true true c = refl
@@ -41,10 +34,6 @@ and_second false b e h = never (cc)
 pub and_fails : (a b : Bool) → (a ≡ true → b ≡ false) → (a && b) ≡ false
 and_fails true b h = h refl
 and_fails false b h = refl
-
--- Neither may.
-pub or_fails : (a b : Bool) → a ≡ false → b ≡ false → (a || b) ≡ false
-or_fails a b e f = rw (e, f) refl
 
 pub and_left : (a b : Bool) → (a && b) ≡ true → a ≡ true
 and_left true b e = refl

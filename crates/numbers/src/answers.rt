@@ -1,4 +1,5 @@
 // Document 01's numbers of what is answered, as specs/Answers.antt has them.
+// They are constants and no enum: table's `Finding`, dispatch's `Refusal` and verdict's `Verdict` are the kinds, and a number stands only where it goes out.
 
 // "When the table check says no"
 pub const SHORT: u32 = 1;

@@ -2,27 +2,28 @@
 use Prim.Native.Nat.{ℕ, min, max}
 use mathlib.Core.Path.{◌≡◌, refl, ap, sym, ◌∙◌}
 use mathlib.Core.List.{List}
+use Rattle.std.specs.Prelude.{Result, Ok}
 use Rattle.sets.specs.Member.{width, wide, has, with_of, without_of, size_of}
+use Rattle.sets.specs.declared.each.Members.{Members}
 use lib.ListN.{length}
 use Rattle.table.specs.Limits.{most_tasks}
 use Rattle.table.specs.Table.{Table, task_of}
 use Rattle.table.specs.Held.{held_by, held_set}
 use Rattle.table.specs.Innermost.{innermost_of}
 use Rattle.table.specs.Floor.{users_of, floor_of}
-use Rattle.table.specs.Map.{table_at, next_of}
-use Rattle.table.specs.Said.{said_of, check_said, Surveyed, survey_said, survey_of}
+use Rattle.table.specs.Map.{table_at, map_of, next_of}
+use Rattle.table.specs.Said.{refusal_said, said_of, check_said, Surveyed, survey_said, survey_of}
 use Rattle.table.specs.Said as found
 use Rattle.table.specs.declared.Map.{Map}
-use Rattle.table.specs.declared.Survey.{Survey}
 use Rattle.machine.specs.Order.{who_runs}
 use Rattle.machine.specs.declared.Kept.{Kept}
-use Rattle.torn.specs.Examined.{examined_of}
+use Rattle.torn.specs.Examined.{tested, examined_of}
 use Rattle.verdict.specs.Multiple.{divisor_of}
 use Rattle.verdict.specs.Verdict.{verdict_of}
 use Rattle.verdict.specs.Said.{verdict_said}
 use Rattle.verdict.specs.Verdict as judged
 use Rattle.dispatch.specs.State.{state_of}
-use Rattle.dispatch.specs.Heard.{number_of, reply_said, outcome_of, heard_of, begun_of}
+use Rattle.dispatch.specs.Heard.{Heard, number_of, reply_said, outcome_of, heard_of, begun_of}
 use Rattle.dispatch.specs.Dispatch.{start_of, release_of, step_of, after}
 use Rattle.dispatch.specs.declared.Outcome.{Outcome}
 use Rattle.dispatch.specs.declared.State.{State}
@@ -30,9 +31,10 @@ use Rattle.board.specs.Calls.{first_number, found_answer, judged_answer, start_i
 use Rattle.table.specs.declared.Finding.{Finding}
 use Rattle.verdict.specs.declared.Verdict.{Verdict}
 use Rattle.dispatch.specs.declared.Refusal.{Refusal}
-use Rattle.dispatch.specs.declared.Reply.{Reply}
+use Rattle.dispatch.specs.declared.Refusal.TheVariants.{Torn}
+use Rattle.dispatch.specs.declared.Accepted.{Accepted}
 use Rattle.text.specs.Bytes.{bytes}
-use Rattle.text.specs.Room.{written, room_for, Written}
+use Rattle.text.specs.Room.{written, room_for, Written, lay, past, Laid}
 use Rattle.script.specs.Grammar.{command_of, table_of}
 use Rattle.lines.specs.Lines.{line, reply_text, finding_text, verdict_text, wrong_text, clock_text, job_text}
 use Rattle.text.specs.declared.Fault.{Fault}
@@ -42,8 +44,8 @@ use Rattle.player.specs.Play.{first_session, session_after, answer_to, Plays}
 use Rattle.player.specs.declared.Session.{Session}
 use Rattle.player.specs.declared.Answered.{Answered}
 use Rattle.pinned.specs.Pinned.{Pinned, itself}
-use Rattle.pinned.proofs.Meaning.{finding_from, parts_from, answer_from, started_from, verdict_from}
-use Rattle.pinned.proofs.WaysBack.{finding_back, parts_back, answer_back, started_back, verdict_back}
+use Rattle.pinned.proofs.Meaning.{finding_from, tested_from, parts_from, answer_from, started_from, verdict_from}
+use Rattle.pinned.proofs.WaysBack.{finding_back, survey_back, tested_back, parts_back, answer_back, started_back, verdict_back}
 
 -- The lemma: what has a way back pins.
 pub pinned_by : {A B : Type 0} (meaning : A → B) (back : B → A) → ((r : A) → back (meaning r) ≡ r) → (value : B) → Pinned meaning value
@@ -53,14 +55,14 @@ pinned_by meaning back way value r s p q = sym (way r) ∙ ap back (p ∙ sym q)
 pub pinned_plain : {A : Type 0} (value : A) → Pinned (itself {A = A}) value
 pinned_plain value = pinned_by itself itself (λ r. refl) value
 
--- numbers: one promise at each width, pinned once for all of them
+-- numbers: one promise at each type of numbers, pinned once for all of them: the value of a number is the number
 pub lesser_pinned : (a b : ℕ) → Pinned itself (min a b)
 lesser_pinned a b = pinned_plain (min a b)
 
 pub greater_pinned : (a b : ℕ) → Pinned itself (max a b)
 greater_pinned a b = pinned_plain (max a b)
 
--- sets
+-- sets: `has` and `with` at both widths, where the value of a number is the number too
 pub has_pinned : (set k : ℕ) → Pinned itself (has set k)
 has_pinned set k = pinned_plain (has set k)
 
@@ -76,25 +78,25 @@ without_pinned set k = pinned_plain (without_of width set k)
 pub size_pinned : (set : ℕ) → Pinned itself (size_of set)
 size_pinned set = pinned_plain (size_of set)
 
+-- An iterator over the members is the set of those that are left.
+pub members_pinned : (set : ℕ) → Pinned (λ (r : Members). r.rest) set
+members_pinned set = pinned_by (λ (r : Members). r.rest) (λ (rest : ℕ). record { rest = rest }) (λ r. refl) set
+
 -- table
-pub finding_number_pinned : (finding : Finding) → Pinned itself (found.number_in (said_of finding))
-finding_number_pinned finding = pinned_plain (found.number_in (said_of finding))
+pub finding_number_pinned : (finding : Finding) → Pinned itself (found.number_in (refusal_said finding))
+finding_number_pinned finding = pinned_plain (found.number_in (refusal_said finding))
 
-pub finding_place_pinned : (finding : Finding) → Pinned itself (found.place_in (said_of finding))
-finding_place_pinned finding = pinned_plain (found.place_in (said_of finding))
+pub finding_place_pinned : (finding : Finding) → Pinned itself (found.place_in (refusal_said finding))
+finding_place_pinned finding = pinned_plain (found.place_in (refusal_said finding))
 
-pub check_pinned : (words : List ℕ) → Pinned said_of (check_said words)
-check_pinned words = pinned_by said_of finding_from finding_back (check_said words)
-
--- A survey says what its finding says, and has the map.
-abbrev survey_back : Surveyed → Survey
-survey_back s = record { finding = finding_from s.said; map = s.map }
-
-survey_back_lem : (r : Survey) → survey_back (survey_said r) ≡ r
-survey_back_lem r = λ i. record { finding = finding_back r.finding i; map = r.map }
+pub check_pinned : (words : List ℕ) → Pinned (said_of {A = Unit {0}}) (check_said words)
+check_pinned words = pinned_by said_of (finding_from tt) finding_back (check_said words)
 
 pub survey_pinned : (words : List ℕ) → Pinned survey_said (survey_of words)
-survey_pinned words = pinned_by survey_said survey_back survey_back_lem (survey_of words)
+survey_pinned words = pinned_by survey_said (λ (s : Surveyed). finding_from s.map s.said) survey_back (survey_of words)
+
+pub map_of_pinned : (words : List ℕ) → Pinned itself (map_of words)
+map_of_pinned words = pinned_plain (map_of words)
 
 -- The readers: of every list of words, every map, every task, place and resource.
 module _ (words : List ℕ) (map : Map) where
@@ -136,18 +138,18 @@ pub who_runs_pinned : (kept : Kept) → Pinned itself (who_runs kept)
 who_runs_pinned kept = pinned_plain (who_runs kept)
 
 -- torn
-pub examine_pinned : (words : List ℕ) (used : ℕ) (kept : Kept) → Pinned itself (examined_of words used kept)
-examine_pinned words used kept = pinned_plain (examined_of words used kept)
+pub examine_pinned : (words : List ℕ) (used : ℕ) (kept : Kept) → Pinned tested (examined_of words used kept)
+examine_pinned words used kept = pinned_by tested tested_from tested_back (examined_of words used kept)
 
 -- verdict
 pub gcd_pinned : (a b : ℕ) → Pinned itself (divisor_of a b)
 gcd_pinned a b = pinned_plain (divisor_of a b)
 
-pub verdict_number_pinned : (verdict : Verdict) → Pinned itself (judged.number_in (verdict_said verdict))
-verdict_number_pinned verdict = pinned_plain (judged.number_in (verdict_said verdict))
+pub verdict_number_pinned : (verdict : Verdict) → Pinned itself (judged.number_in (verdict_said (Ok verdict)))
+verdict_number_pinned verdict = pinned_plain (judged.number_in (verdict_said (Ok verdict)))
 
-pub verdict_value_pinned : (verdict : Verdict) → Pinned itself (judged.value_in (verdict_said verdict))
-verdict_value_pinned verdict = pinned_plain (judged.value_in (verdict_said verdict))
+pub verdict_value_pinned : (verdict : Verdict) → Pinned itself (judged.value_in (verdict_said (Ok verdict)))
+verdict_value_pinned verdict = pinned_plain (judged.value_in (verdict_said (Ok verdict)))
 
 pub verdict_pinned : (words : List ℕ) → Pinned verdict_said (verdict_of words)
 verdict_pinned words = pinned_by verdict_said verdict_from verdict_back (verdict_of words)
@@ -155,6 +157,9 @@ verdict_pinned words = pinned_by verdict_said verdict_from verdict_back (verdict
 -- dispatch: state and all
 pub refusal_number_pinned : (refusal : Refusal) → Pinned itself (number_of refusal)
 refusal_number_pinned refusal = pinned_plain (number_of refusal)
+
+pub refusal_from_torn_pinned : Pinned itself Torn
+refusal_from_torn_pinned = pinned_plain Torn
 
 pub start_pinned : (words : List ℕ) → Pinned begun_of (start_of words)
 start_pinned words = pinned_by begun_of started_from started_back (start_of words)
@@ -167,16 +172,15 @@ step_pinned s time = pinned_by heard_of answer_from answer_back (step_of s time)
 
 -- An event on a state's parts: what it leaves of them, and what it says.
 module _ (words : List ℕ) (used : ℕ) (kept : Kept) where
-  pub event_release_pinned : (task time : ℕ) →
-      Pinned (λ (r : Outcome). after (state_of words used kept) (outcome_of r)) (release_of (state_of words used kept) task time)
-  event_release_pinned task time =
-      pinned_by (λ (r : Outcome). after (state_of words used kept) (outcome_of r)) parts_from (parts_back (state_of words used kept))
-      (release_of (state_of words used kept) task time)
+  abbrev pub parts_said : Result Outcome Refusal → Heard
+  parts_said r = after (state_of words used kept) (outcome_of kept r)
 
-  pub event_step_pinned : (time : ℕ) → Pinned (λ (r : Outcome). after (state_of words used kept) (outcome_of r)) (step_of (state_of words used kept) time)
-  event_step_pinned time =
-      pinned_by (λ (r : Outcome). after (state_of words used kept) (outcome_of r)) parts_from (parts_back (state_of words used kept))
-      (step_of (state_of words used kept) time)
+  pub event_release_pinned : (task time : ℕ) → Pinned parts_said (release_of (state_of words used kept) task time)
+  event_release_pinned task time =
+      pinned_by parts_said parts_from (parts_back (state_of words used kept) kept) (release_of (state_of words used kept) task time)
+
+  pub event_step_pinned : (time : ℕ) → Pinned parts_said (step_of (state_of words used kept) time)
+  event_step_pinned time = pinned_by parts_said parts_from (parts_back (state_of words used kept) kept) (step_of (state_of words used kept) time)
 
 -- board: the image, the answer and the result that a call leaves
 pub lawqendo_check_pinned : (words answer answer' : List ℕ) (r r' : ℕ) →
@@ -225,6 +229,12 @@ pub written_pinned : (text room room₁ room₂ : List ℕ) (r₁ r₂ : ℕ) �
 written_pinned text room room₁ room₂ r₁ r₂ p q =
     (pinned_plain (written text room) room₁ room₂ p.buffer q.buffer, pinned_plain (room_for text room) r₁ r₂ p.count q.count)
 
+-- The same where a text is laid from a place on: the room, and the place behind.
+pub laid_pinned : {A : Type 0} (text room room₁ room₂ : List A) (at r₁ r₂ : ℕ) → Laid text room at room₁ r₁ → Laid text room at room₂ r₂ →
+    (room₁ ≡ room₂) × (r₁ ≡ r₂)
+laid_pinned text room room₁ room₂ at r₁ r₂ p q =
+    (pinned_plain (lay room at text) room₁ room₂ p.buffer q.buffer, pinned_plain (past (length room) at text) r₁ r₂ p.next q.next)
+
 pub command_of_pinned : (text : List ℕ) → Pinned itself (command_of text)
 command_of_pinned text = pinned_plain (command_of text)
 
@@ -239,16 +249,16 @@ module _ (room room₁ room₂ : List ℕ) (r₁ r₂ : ℕ) where
   pub table_words_pinned : (text : List ℕ) → Once (table_of text)
   table_words_pinned text = once (table_of text)
 
-  pub write_reply_pinned : (reply : Reply) → Once (line (reply_text (reply_said reply)))
+  pub write_reply_pinned : (reply : Result Accepted Refusal) → Once (line (reply_text (reply_said reply)))
   write_reply_pinned reply = once (line (reply_text (reply_said reply)))
 
-  pub write_finding_pinned : (finding : Finding) → Once (line (finding_text (bytes "sound") (said_of finding)))
+  pub write_finding_pinned : (finding : Result (Unit {0}) Finding) → Once (line (finding_text (bytes "sound") (said_of finding)))
   write_finding_pinned finding = once (line (finding_text (bytes "sound") (said_of finding)))
 
-  pub write_started_pinned : (finding : Finding) → Once (line (finding_text (bytes "started") (said_of finding)))
+  pub write_started_pinned : (finding : Result (Unit {0}) Finding) → Once (line (finding_text (bytes "started") (said_of finding)))
   write_started_pinned finding = once (line (finding_text (bytes "started") (said_of finding)))
 
-  pub write_verdict_pinned : (verdict : Verdict) → Once (line (verdict_text (verdict_said verdict)))
+  pub write_verdict_pinned : (verdict : Result Verdict Finding) → Once (line (verdict_text (verdict_said verdict)))
   write_verdict_pinned verdict = once (line (verdict_text (verdict_said verdict)))
 
   pub write_wrong_pinned : (number : ℕ) (fault : Fault) → Once (line (wrong_text number fault))

@@ -1,41 +1,42 @@
--- What the calls below promise, as this crate's definitions say it: as many words as a length says, and the lines of the jobs. Assumes nothing.
-use Rattle.std.proofs.Common.{◌≡◌, ℕ, suc, ◌+◌, ◌-◌, ◌<◌, ◌≤◌, min, Bool, true, false, ltb, List, [], ◌++◌, length, take, drop, sym, refl, ap, ◌∙◌, append-nil, add-one, arith, length-drop, drop_of_length-le, length-take-le, take_all, ltb-false, ltb-true}
+-- What the calls below promise, as this crate's definitions say it: the lines of the jobs. Assumes nothing.
+use Rattle.std.proofs.Common.{◌≡◌, ℕ, zero, suc, ◌+◌, ◌-◌, ◌<◌, ◌≤◌, Bool, true, false, cond, List, [], ◌∷◌, ◌++◌, length, take, drop, refl, append-nil, arith, lt-ltb, le-ltb, length-drop, drop_of_length-le, take_all}
+use Rattle.std.specs.List.{flat_map}
+use Rattle.sets.specs.Member.{width, has, members_from, members}
 use Rattle.table.specs.Limits.{most_tasks}
-use Rattle.table.specs.Table.{Table}
+use Rattle.table.specs.Table.{Table, task_of}
+use Rattle.machine.specs.Order.{row_of}
 use Rattle.machine.specs.declared.Kept.{Kept}
 use Rattle.text.specs.Room.{Written, Laid}
-use Rattle.player.specs.Show.{task_text, jobs_text}
+use Rattle.player.specs.Show.{row_text, task_text, ready_text, jobs_text}
 use Rattle.text.proofs.Lay.{from_part}
 
--- The first words, as many as there are and as a length says.
-pub clamped : (n k : ℕ) (l : List ℕ) → k ≡ min n (length l) → take k l ≡ take n l
-clamped n k l h = go (ltb (length l) n) refl
+-- The lines of a state's ready jobs, member after member, are those of its tasks. Members past the last task have none.
+ready_past : (n j : ℕ) (t : Table) (kept : Kept) → most_tasks ≤ j → flat_map (ready_text t kept) (members_from n j kept.ready) ≡ []
+unfolding members_from
+ready_past zero j t kept h = refl
+ready_past (suc n) j t kept h = go (has kept.ready j) (ready_past n (suc j) t kept (omega arith))
   where
-    go : (t : Bool) → ltb (length l) n ≡ t → take k l ≡ take n l
-    go true e =
-        let past : length l < n = ltb-true (length l) n e in
-        take_all k l (omega arith) ∙ sym (take_all n l (omega arith))
-    go false e =
-        let within : n ≤ length l = ltb-false (length l) n e in
-        let same : k ≡ n = omega arith in
-        ap (λ (m : ℕ). take m l) same
+    go : (b : Bool) → flat_map (ready_text t kept) (members_from n (suc j) kept.ready) ≡ [] →
+        flat_map (ready_text t kept) (cond b (j ∷ members_from n (suc j) kept.ready) (members_from n (suc j) kept.ready)) ≡ []
+    go true rest = rw (le-ltb j most_tasks h) rest
+    go false rest = rest
 
-pub clamped_length : (n k : ℕ) (l : List ℕ) → k ≡ min n (length l) → k ≡ length (take k l)
-clamped_length n k l h = sym (length-take-le k l (omega arith))
+ready_jobs : (m n j : ℕ) (t : Table) (kept : Kept) → m ≤ n → j + m ≡ most_tasks →
+    flat_map (ready_text t kept) (members_from n j kept.ready) ≡ jobs_text m j t kept
+unfolding members_from jobs_text task_text
+ready_jobs zero n j t kept h e = ready_past n j t kept (omega arith)
+ready_jobs (suc m) zero j t kept h e = absurd (omega arith)
+ready_jobs (suc m) (suc n) j t kept h e = go (has kept.ready j) (ready_jobs m n (suc j) t kept (omega arith) (omega arith))
+  where
+    go : (b : Bool) → flat_map (ready_text t kept) (members_from n (suc j) kept.ready) ≡ jobs_text m (suc j) t kept →
+        flat_map (ready_text t kept) (cond b (j ∷ members_from n (suc j) kept.ready) (members_from n (suc j) kept.ready)) ≡
+        cond b (row_text j (task_of t j).plan (row_of kept j)) [] ++ jobs_text m (suc j) t kept
+    go true rest = let below : j < most_tasks = omega arith in rw (lt-ltb j most_tasks below, rest)
+    go false rest = rest
 
--- The lines of the tasks from one on: its own, and those of the tasks behind it.
-pub jobs_step : (i : ℕ) (t : Table) (kept : Kept) → i < most_tasks →
-    jobs_text (most_tasks - i) i t kept ≡ task_text t kept i ++ jobs_text (most_tasks - (i + 1)) (i + 1) t kept
-unfolding jobs_text
-jobs_step i t kept h =
-    let more : most_tasks - i ≡ suc (most_tasks - (i + 1)) = omega arith in
-    rw (more, ← add-one i)
-
-pub jobs_none : (i : ℕ) (t : Table) (kept : Kept) → most_tasks ≤ i → jobs_text (most_tasks - i) i t kept ≡ []
-unfolding jobs_text
-jobs_none i t kept h =
-    let none : most_tasks - i ≡ 0 = omega arith in
-    rw none
+pub all_ready : (t : Table) (kept : Kept) → flat_map (ready_text t kept) (members width kept.ready) ≡ jobs_text most_tasks 0 t kept
+unfolding members
+all_ready t kept = ready_jobs most_tasks width 0 t kept (omega arith) refl
 
 -- What is written at the start of the part behind a place, lent and come back, is laid from the place on.
 pub from_middle : {text b q : List ℕ} {at r : ℕ} → at ≤ length b → Written text (take (length b - at) (drop at b)) q r →

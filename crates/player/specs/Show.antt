@@ -1,5 +1,5 @@
 -- `show`: "One line for the clock, then one for each ready job by rising task number" (docs/SCRIPT.md), read off a state. Assumes nothing.
-use Rattle.std.specs.Prelude.{ℕ, zero, suc, cond, List, [], ◌++◌}
+use Rattle.std.specs.Prelude.{ℕ, zero, suc, cond, List, [], ◌++◌, ltb}
 use Rattle.sets.specs.Member.{has}
 use Rattle.table.specs.Table.{Step, Table, task_of}
 use Rattle.table.specs.Held.{held_by, held_set}
@@ -39,6 +39,10 @@ task_text t kept i = cond (has kept.ready i) (row_text i (task_of t i).plan (row
 unfoldable pub jobs_text : ℕ → ℕ → Table → Kept → List ℕ
 jobs_text zero i t kept = []
 jobs_text (suc n) i t kept = task_text t kept i ++ jobs_text n (suc i) t kept
+
+-- The same line as the code writes it, of a job that is ready: a task that is not there has none.
+abbrev pub ready_text : Table → Kept → ℕ → List ℕ
+ready_text t kept i = cond (ltb i most_tasks) (row_text i (task_of t i).plan (row_of kept i)) []
 
 -- The clock, and the jobs.
 abbrev pub lines_text : Table → Kept → List ℕ

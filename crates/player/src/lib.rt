@@ -11,6 +11,7 @@ pub mod run;
 pub mod show;
 
 // What is kept between lines: the words that the last table lent, and how many; the dispatcher's state; and how many lines there were.
+// Fixed memory: no heap, so the words stand in an array with their number beside it.
 #[derive(Clone, Copy)]
 pub struct Session {
     pub words: [u32; WORDS],
@@ -19,7 +20,7 @@ pub struct Session {
     pub lines: u64,
 }
 
-// The session after a line, and how many bytes its answer has.
+// The session after a line, and how many bytes of what was lent its answer has, as std's `read` says it: `Plays` holds it.
 #[derive(Clone, Copy)]
 pub struct Answered {
     pub session: Session,

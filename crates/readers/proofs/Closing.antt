@@ -1,138 +1,106 @@
--- What a plan's first steps hold, found by a walk back from the last of them: an unlock closes the nearest lock before it that is not closed
--- yet. The walk carries a set and the number of unlocks that still close something; `held_on` says what is to come to the set.
+-- What a plan's first steps hold, found by a walk back from a place: an unlock closes the nearest lock before it that is not closed yet. The walk
+-- carries the number of unlocks that still close something, and goes past as many of the sections held where it stands.
 -- Assumes nothing.
-use Prim.Native.Nat.{ℕ, zero, suc, ◌+◌, ◌-◌, ◌*◌, ◌<◌, min}
-use mathlib.Core.Path.{◌≡◌, refl, sym, ap, ◌∙◌}
+use Prim.Native.Nat.{ℕ, zero, suc, ◌+◌, ◌-◌, ◌≤◌, ◌<◌, min}
+use mathlib.Core.Path.{◌≡◌, refl, ap, ◌∙◌}
+use mathlib.Core.Logic.{◌≢◌}
 use mathlib.Core.Bool.{Bool, true, false}
-use mathlib.Core.List.{List, [], ◌∷◌}
-use native.Mathlib.Nat.{suc-min-suc, zero-min, min-zero, not-suc-le-zero}
+use mathlib.Core.List.{List, [], ◌∷◌, map}
 use native.Mathlib.Numerals.{add-one}
 use native.Mathlib.Omega.{arith}
-use lib.Dec.{ltb, eqb}
-use lib.ListN.{length, get_or, take, drop}
-use borrow.Author.Tests.{ltb-true, ltb-false, eq-eqb, ne_eqb}
-use Rattle.numbers.proofs.Tests.{or_swap}
-use Rattle.sets.specs.Member.{width, has, with_of}
-use Rattle.sets.proofs.Digit.{same_everywhere}
-use Rattle.sets.proofs.Change.{with_beyond, has_with}
-use Rattle.table.specs.Limits.{most_tasks, most_steps, at_steps, at_plan, step_size, at_resource, at_length}
-use Rattle.table.specs.Table.{Step, unlock, task_of}
-use Rattle.table.specs.Held.{Section, held_after, held_from, held_by, held_set}
-use Rattle.table.specs.Map.{steps_at, task_at, table_at}
-use Rattle.table.specs.declared.Map.{Map}
-use Rattle.table.proofs.Laid.{steps_length, step_at, held_none, held_more}
-use Rattle.readers.proofs.Raw.{task_at_lem, step_by, step_by_lem}
-
--- ---- one step more
-
--- what the first n steps of the task that starts at a place hold
-abbrev pub held_at : List ℕ → ℕ → ℕ → List Section
-held_at ws at n = held_from [] (steps_at n ws (at + at_plan))
-
-held_by_lem : (ws : List ℕ) (at n : ℕ) → held_at ws at (suc n) ≡ held_after (step_by ws at (at_plan + step_size * n)) (held_at ws at n)
-held_by_lem ws at n = held_more ws (at + at_plan) n ∙ ap (λ (s : Step). held_after s (held_at ws at n)) (step_by_lem ws at n)
-
--- ---- the order in which members come to a set does not matter
-
-with_order : (w x j k : ℕ) → with_of w (with_of w x j) k ≡ with_of w (with_of w x k) j
-with_order w x j k = go (ltb j w) refl (ltb k w) refl
-  where
-    same : j < w → k < w → (i : ℕ) → has (with_of w (with_of w x j) k) i ≡ has (with_of w (with_of w x k) j) i
-    same l m i = rw (has_with w (with_of w x j) k i m, has_with w x j i l, has_with w (with_of w x k) j i l, has_with w x k i m) (or_swap (eqb i k) (eqb i j) (has x i))
-
-    go : (b : Bool) → ltb j w ≡ b → (d : Bool) → ltb k w ≡ d → with_of w (with_of w x j) k ≡ with_of w (with_of w x k) j
-    go true e true f = same_everywhere (with_of w (with_of w x j) k) (with_of w (with_of w x k) j) (same (ltb-true j w e) (ltb-true k w f))
-    go true e false f = rw (with_beyond w (with_of w x j) k (ltb-false k w f), with_beyond w x k (ltb-false k w f))
-    go false e d f = rw (with_beyond w x j (ltb-false j w e), with_beyond w (with_of w x k) j (ltb-false j w e))
-
--- a set with the held resources among its members
-unfoldable pub held_on : ℕ → List Section → ℕ
-held_on set [] = set
-held_on set (s ∷ held) = with_of width (held_on set held) s.resource
-
-on_none : (set : ℕ) → held_on set [] ≡ set
-unfolding held_on
-on_none set = refl
-
-pub on_zero : (held : List Section) → held_on 0 held ≡ held_set held
-unfolding held_on held_set
-on_zero [] = refl
-on_zero (s ∷ held) = ap (λ (set : ℕ). with_of width set s.resource) (on_zero held)
-
-on_more : (set r l : ℕ) (held : List Section) → held_on set (record { resource = r; length = l } ∷ held) ≡ held_on (with_of width set r) held
-unfolding held_on
-on_more set r l [] = refl
-on_more set r l (s ∷ held) =
-    with_order width (held_on set held) s.resource r ∙ ap (λ (x : ℕ). with_of width x s.resource) (on_more set r l held)
+use lib.Dec.{ltb}
+use borrow.Author.Tests.{ltb-true, ltb-false}
+use lib.ListN.{length, drop}
+use lib.Seq.{take_all}
+use Rattle.std.specs.Prelude.{None, Some}
+use Rattle.std.specs.List.{fold}
+use Rattle.numbers.proofs.Tests.{never}
+use Rattle.sets.specs.Member.{width, with_of}
+use Rattle.table.specs.Table.{Step, lock, unlock}
+use Rattle.table.specs.Held.{Section, held_after, held_by, held_set}
+use Rattle.table.proofs.Plans.{held_step, held_start}
+use Rattle.readers.specs.Read.{task_in, step_in, locked_by}
+use Rattle.readers.proofs.Raw.{plan_step}
+use Rattle.readers.proofs.Gathered.{fold_with}
 
 -- ---- the walk: at its start, for each kind of step, and at its end
 
-drop_none {ℓ} : {A : Type ℓ} (n : ℕ) → ◌≡◌ {A = List A} (drop n []) []
-drop_none zero = refl
-drop_none (suc n) = refl
+-- A place past the plan's end holds what its end holds.
+pub walk_start : (plan : List Step) (k : ℕ) → held_by plan (min k (length plan)) ≡ held_by plan k
+walk_start plan k = go (ltb (length plan) k) refl
+  where
+    go : (t : Bool) → ltb (length plan) k ≡ t → held_by plan (min k (length plan)) ≡ held_by plan k
+    go true e =
+        let past : length plan < k = ltb-true (length plan) k e in
+        let end : min k (length plan) ≡ length plan = omega arith in
+        rw (end, take_all k plan (omega arith), take_all (length plan) plan (omega arith))
+    go false e =
+        let within : k ≤ length plan = ltb-false (length plan) k e in
+        let same : min k (length plan) ≡ k = omega arith in
+        rw same
 
-drop_unlock : (n : ℕ) (held : List Section) → drop n (held_after unlock held) ≡ drop (suc n) held
-drop_unlock n [] = drop_none n
-drop_unlock n (s ∷ held) = refl
+module _ (ws : List ℕ) (left : ℕ) (some : 0 < left) (there : left ≤ length (task_in ws).plan) where
+  last : held_by (task_in ws).plan left ≡ held_after (step_in ws (left - 1)) (held_by (task_in ws).plan (left - 1))
+  last =
+      let back : suc (left - 1) ≡ left = omega arith in
+      let before : left - 1 < length (task_in ws).plan = omega arith in
+      rw back at (held_step (task_in ws).plan (left - 1) before)
+      ∙ ap (λ (s : Step). held_after s (held_by (task_in ws).plan (left - 1))) (plan_step ws (left - 1) before)
 
-pub walk_start : (ws : List ℕ) (at n : ℕ) → held_on 0 (drop 0 (held_at ws at n)) ≡ held_set (held_at ws at n)
-walk_start ws at n = on_zero (held_at ws at n)
+  -- a lock that no unlock closes: it is around what the steps behind it hold
+  pub walk_found : (closing : ℕ) {r : ℕ} → closing ≡ 0 → locked_by (step_in ws (left - 1)) ≡ Some r
+      → (l : ℕ) × (drop closing (held_by (task_in ws).plan left) ≡ record { resource = r; length = l } ∷ held_by (task_in ws).plan (left - 1))
+  walk_found closing {r} none e = rw (none, last) (go (step_in ws (left - 1)) e)
+    where
+      go : (s : Step) → locked_by s ≡ Some r
+          → (l : ℕ) × (held_after s (held_by (task_in ws).plan (left - 1)) ≡ record { resource = r; length = l } ∷ held_by (task_in ws).plan (left - 1))
+      go (lock q l) e = (l, let same : q ≡ r = cc in rw same)
+      go unlock e = never (cc)
 
-pub walk_end : (ws : List ℕ) (at set closing : ℕ) → held_on set (drop closing (held_at ws at 0)) ≡ set
-walk_end ws at set closing = rw (held_none ws (at + at_plan), drop_none {A = Section} closing) (on_none set)
+  -- one that the nearest unlock behind it closes
+  pub walk_closed : (closing : ℕ) {r : ℕ} → closing ≢ 0 → locked_by (step_in ws (left - 1)) ≡ Some r
+      → drop (closing - 1) (held_by (task_in ws).plan (left - 1)) ≡ drop closing (held_by (task_in ws).plan left)
+  walk_closed zero some_closing e = absurd (some_closing refl)
+  walk_closed (suc n) {r} some_closing e =
+      let less : suc n - 1 ≡ n = omega arith in
+      rw (last, less) (go (step_in ws (left - 1)) e)
+    where
+      go : (s : Step) → locked_by s ≡ Some r → drop n (held_by (task_in ws).plan (left - 1)) ≡ drop (suc n) (held_after s (held_by (task_in ws).plan (left - 1)))
+      go (lock q l) e = refl
+      go unlock e = never (cc)
 
--- a lock that no unlock closes; one that the nearest unlock behind it closes; an unlock. The step is the last of the `left` steps.
-pub walk_lock : (ws : List ℕ) (at set closing left : ℕ) → 0 < left → closing ≡ 0 → get_or ws (at + (at_plan + step_size * (left - 1))) 0 ≡ 1
-    → held_on (with_of width set (get_or ws (at + (at_plan + step_size * (left - 1) + at_resource)) 0)) (drop closing (held_at ws at (left - 1)))
-    ≡ held_on set (drop closing (held_at ws at left))
-walk_lock ws at set closing zero l z e = absurd (not-suc-le-zero l)
-walk_lock ws at set (suc closing) (suc n) l z e = absurd (omega arith)
-walk_lock ws at set zero (suc n) l z e =
-    let m : suc n - 1 ≡ n = omega arith in
-    let one : get_or ws (at + (at_plan + step_size * n)) 0 ≡ 1 = rw m at e in
-    rw (m, held_by_lem ws at n, eq-eqb (get_or ws (at + (at_plan + step_size * n)) 0) 1 one)
-    (sym (on_more set (get_or ws (at + (at_plan + step_size * n + at_resource)) 0) (get_or ws (at + (at_plan + step_size * n + at_length)) 0) (held_at ws at n)))
+  -- an unlock
+  pub walk_unlock : (closing : ℕ) → locked_by (step_in ws (left - 1)) ≡ None
+      → drop (closing + 1) (held_by (task_in ws).plan (left - 1)) ≡ drop closing (held_by (task_in ws).plan left)
+  walk_unlock closing e = rw (last, add-one closing) (go (step_in ws (left - 1)) e)
+    where
+      after : (n : ℕ) (held : List Section) → drop (suc n) held ≡ drop n (held_after unlock held)
+      after zero [] = refl
+      after (suc n) [] = refl
+      after n (s ∷ held) = refl
 
-pub walk_closed : (ws : List ℕ) (at set closing left : ℕ) → 0 < left → (closing ≡ 0 → ⊥) → get_or ws (at + (at_plan + step_size * (left - 1))) 0 ≡ 1
-    → held_on set (drop (closing - 1) (held_at ws at (left - 1))) ≡ held_on set (drop closing (held_at ws at left))
-walk_closed ws at set closing zero l z e = absurd (not-suc-le-zero l)
-walk_closed ws at set zero (suc n) l z e = absurd (z refl)
-walk_closed ws at set (suc closing) (suc n) l z e =
-    let m : suc n - 1 ≡ n = omega arith in
-    let d : suc closing - 1 ≡ closing = omega arith in
-    let one : get_or ws (at + (at_plan + step_size * n)) 0 ≡ 1 = rw m at e in
-    rw (m, d, held_by_lem ws at n, eq-eqb (get_or ws (at + (at_plan + step_size * n)) 0) 1 one)
+      go : (s : Step) → locked_by s ≡ None → drop (suc closing) (held_by (task_in ws).plan (left - 1)) ≡ drop closing (held_after s (held_by (task_in ws).plan (left - 1)))
+      go (lock q l) e = never (cc)
+      go unlock e = after closing (held_by (task_in ws).plan (left - 1))
 
-pub walk_unlock : (ws : List ℕ) (at set closing left : ℕ) → 0 < left → (get_or ws (at + (at_plan + step_size * (left - 1))) 0 ≡ 1 → ⊥)
-    → held_on set (drop (closing + 1) (held_at ws at (left - 1))) ≡ held_on set (drop closing (held_at ws at left))
-walk_unlock ws at set closing zero l e = absurd (not-suc-le-zero l)
-walk_unlock ws at set closing (suc n) l e =
-    let m : suc n - 1 ≡ n = omega arith in
-    let other : get_or ws (at + (at_plan + step_size * n)) 0 ≡ 1 → ⊥ = rw m at e in
-    rw (m, add-one closing, held_by_lem ws at n, ne_eqb (get_or ws (at + (at_plan + step_size * n)) 0) 1 other)
-    (ap (held_on set) (sym (drop_unlock closing (held_at ws at n))))
+pub walk_end : (plan : List Step) (closing left : ℕ) → left ≡ 0 → drop closing (held_by plan left) ≡ []
+walk_end plan closing left start = rw (start, held_start plan) (go closing)
+  where
+    go : (n : ℕ) → ◌≡◌ {A = List Section} (drop n []) []
+    go zero = refl
+    go (suc n) = refl
 
--- ---- the first steps of a task's plan
+-- what the loop goes by
+pub ruleset walk_steps = (walk_start, walk_closed, walk_unlock, walk_end)
 
-steps_take : (k n : ℕ) (ws : List ℕ) (at : ℕ) → take k (steps_at n ws at) ≡ steps_at (min k n) ws at
-unfolding steps_at
-steps_take zero n ws at = rw (zero-min n)
-steps_take (suc k) zero ws at = rw (min-zero (suc k))
-steps_take (suc k) (suc n) ws at = rw (suc-min-suc k n) (ap (λ (steps : List Step). step_at ws at ∷ steps) (steps_take k n ws (at + step_size)))
+-- ---- what is held, as a set: the resources come to it from the innermost on
 
-plan_held : (ws : List ℕ) (at k : ℕ) → held_by (task_at ws at).plan k ≡ held_at ws at (min k (length (task_at ws at).plan))
-unfolding task_at
-plan_held ws at k =
-    let n = min (get_or ws (at + at_steps) 0) most_steps in
-    ap (held_from []) (steps_take k n ws (at + at_plan)) ∙ ap (λ (m : ℕ). held_at ws at (min k m)) (sym (steps_length n ws (at + at_plan)))
+-- a set, and the held resources that are still to come to it
+abbrev pub held_on : ℕ → List Section → ℕ
+held_on set held = fold (with_of width) set (map (λ (s : Section). s.resource) held)
 
-pub held_at_lem : (ws : List ℕ) (map : Map) (i k : ℕ) → i < min map.tasks most_tasks
-    → held_by (task_of (table_at ws map) i).plan k ≡ held_at ws (get_or map.starts i 0) (min k (length (task_of (table_at ws map) i).plan))
-held_at_lem ws map i k l = rw (task_at_lem ws map i l) (plan_held ws (get_or map.starts i 0) k)
-
--- no steps, nothing held
-pub no_step : (plan : List Step) (k : ℕ) → min k (length plan) ≡ 0 → held_set (held_by plan k) ≡ 0
-unfolding held_from held_set
-no_step plan zero e = refl
-no_step [] (suc k) e = refl
-no_step (s ∷ plan) (suc k) e = absurd (omega arith)
+pub held_all : (held : List Section) → held_on 0 held ≡ held_set held
+unfolding held_set
+held_all [] = refl
+held_all (s ∷ held) =
+    fold_with width 0 s.resource (map (λ (s : Section). s.resource) held) ∙ ap (λ (set : ℕ). with_of width set s.resource) (held_all held)

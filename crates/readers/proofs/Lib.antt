@@ -1,5 +1,5 @@
--- The laws of the readers: what a map reads off the words, what a walk back over a plan finds held, and the users visited for a floor.
+-- The laws of the readers: what a map reads off the words, what a walk back over a plan finds held, the users as a set, and those visited for a floor.
 pub mod Raw
+pub mod Gathered
 pub mod Closing
 pub mod Visiting
-pub mod Walking

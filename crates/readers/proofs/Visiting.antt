@@ -1,67 +1,84 @@
--- The users of a resource from the last task down to the first, and its floor by the members of that set: who is visited by trailing zeros are
--- the users, in the tasks' order, so the least D of those visited is the floor. Stated for every list of tasks that a set has room for.
+-- The users of a resource, gathered into a set from the first task on, and its floor by the members of that set: they are the users, in the tasks'
+-- order, so the least D of them is the floor. Stated for every list of tasks that a set has room for.
 -- Assumes nothing.
-use Prim.Native.Nat.{ℕ, zero, suc, ◌+◌, ◌-◌, ◌^◌, ◌≤◌, ◌<◌, min}
+use Prim.Native.Nat.{ℕ, zero, suc, ◌+◌, ◌-◌, ◌≤◌, ◌<◌, min}
 use mathlib.Core.Path.{◌≡◌, refl, sym, ap, ◌∙◌}
-use mathlib.Core.Logic.{◌≢◌}
 use mathlib.Core.Bool.{Bool, true, false, cond}
 use mathlib.Core.List.{List, [], ◌∷◌, map}
 use native.Mathlib.Nat.{not-suc-le-zero, le_of_suc-le-suc}
+use native.Mathlib.Numerals.{add-one}
 use native.Mathlib.Omega.{arith}
-use lib.Count.{count_trailing_zeros}
 use lib.ListN.{length, get_or}
-use Rattle.sets.specs.Member.{width, has, with_of, without_of, members_from, members}
-use Rattle.sets.specs.Visit.{fold_of}
+use Rattle.std.specs.Prelude.{unwrap_or}
+use Rattle.std.specs.List.{fold, reduce, filter, range_with_len}
+use Rattle.sets.specs.Member.{width, has, with_of, members_from, members}
 use Rattle.sets.proofs.Digit.{has_zero}
-use Rattle.sets.proofs.Visit.{from_has, from_not, members_step, members_zero, fold_step, fold_zero}
-use Rattle.table.specs.Limits.{most_tasks}
+use Rattle.sets.proofs.Visit.{from_has, from_not}
 use Rattle.table.specs.Table.{Task, Table, no_task, tasks_of, task_of}
 use Rattle.table.specs.Floor.{uses, users_from, users_of, deadlines_of, least, floor_of}
-use Rattle.table.specs.Map.{task_at, tasks_at, table_at}
+use Rattle.table.specs.Map.{table_at}
 use Rattle.table.specs.declared.Map.{Map}
-use Rattle.table.proofs.Floors.{least_one, users_user, users_other, users_none, users_next, users_here}
-use Rattle.readers.proofs.Raw.{tasks_at_lem}
+use Rattle.table.proofs.Floors.{users_user as user_first, users_other as other_first, users_none, users_next as user_next, users_here}
+use Rattle.readers.proofs.Raw.{tasks_at_lem, task_read}
+use Rattle.readers.proofs.Gathered.{fold_with}
 
--- ---- one task more
+-- ---- the users, gathered from the first task on
 
--- the users among n tasks by their starts, from the k-th on
-abbrev pub users_down : List ℕ → ℕ → List ℕ → ℕ → ℕ → ℕ
-users_down ws n starts r k = users_from k (tasks_at (n - k) k ws starts) r
+-- a set, and the users among the tasks from the i-th on that are still to come to it
+unfoldable pub users_on : Table → ℕ → ℕ → ℕ → ℕ
+users_on t r set i = fold (with_of width) set (filter (λ (j : ℕ). uses (task_of t j) r) (range_with_len i (tasks_of t - i)))
 
-pub down_start : (ws : List ℕ) (n : ℕ) (starts : List ℕ) (r : ℕ) → 0 ≡ users_down ws n starts r n
-unfolding tasks_at
-down_start ws n starts r =
-    let e : n - n ≡ 0 = omega arith in
-    rw e (sym (users_none n r))
+users_from_lem : (tasks : List Task) (i r : ℕ) (user : ℕ → Bool) → ((j : ℕ) → user (i + j) ≡ uses (get_or tasks j no_task) r)
+    → fold (with_of width) 0 (filter user (range_with_len i (length tasks))) ≡ users_from i tasks r
+users_from_lem [] i r user same = sym (users_none i r)
+users_from_lem (task ∷ tasks) i r user same =
+    let here : user i ≡ uses task r = let e : i + 0 ≡ i = omega arith in sym (ap user e) ∙ same 0 in
+    let rest : fold (with_of width) 0 (filter user (range_with_len (i + 1) (length tasks))) ≡ users_from (suc i) tasks r =
+    users_from_lem tasks (i + 1) r user (λ j. let e : i + 1 + j ≡ i + suc j = omega arith in ap user e ∙ same (suc j))
+    ∙ ap (λ (k : ℕ). users_from k tasks r) (add-one i)
+    in
+    rw here (go rest (uses task r) refl)
+  where
+    go : fold (with_of width) 0 (filter user (range_with_len (i + 1) (length tasks))) ≡ users_from (suc i) tasks r → (b : Bool) → uses task r ≡ b
+        → fold (with_of width) 0 (cond b (i ∷ filter user (range_with_len (i + 1) (length tasks))) (filter user (range_with_len (i + 1) (length tasks))))
+        ≡ users_from i (task ∷ tasks) r
+    go rest true e =
+        fold_with width 0 i (filter user (range_with_len (i + 1) (length tasks))) ∙ ap (λ (set : ℕ). with_of width set i) rest
+        ∙ sym (user_first i task tasks r e)
+    go rest false e = rest ∙ sym (other_first i task tasks r e)
 
-tasks_more : (n k : ℕ) (ws starts : List ℕ) → k < n → tasks_at (n - k) k ws starts ≡ task_at ws (get_or starts k 0) ∷ tasks_at (n - suc k) (suc k) ws starts
-unfolding tasks_at
-tasks_more n k ws starts l =
-    let e : n - k ≡ suc (n - suc k) = omega arith in
-    rw e
+pub users_start : (t : Table) (r : ℕ) → users_on t r 0 0 ≡ users_of t r
+unfolding users_on
+users_start t r =
+    let all : tasks_of t - 0 ≡ tasks_of t = omega arith in
+    rw all
+    (users_from_lem t.tasks 0 r (λ (i : ℕ). uses (task_of t i) r)
+    (λ j. let e : 0 + j ≡ j = omega arith in ap (λ (i : ℕ). uses (task_of t i) r) e))
 
-pub down_user : (ws : List ℕ) (n : ℕ) (starts : List ℕ) (r k : ℕ) {set : ℕ} → 0 < k → k ≤ n
-    → uses (task_at ws (get_or starts (k - 1) 0)) r ≡ true → set ≡ users_down ws n starts r k → with_of width set (k - 1) ≡ users_down ws n starts r (k - 1)
-down_user ws n starts r k l h e inv =
-    let q : suc (k - 1) ≡ k = omega arith in
-    rw (inv, tasks_more n (k - 1) ws starts (omega arith))
-    (sym (users_user (k - 1) (task_at ws (get_or starts (k - 1) 0)) (tasks_at (n - suc (k - 1)) (suc (k - 1)) ws starts) r e
-    ∙ ap (λ (j : ℕ). with_of width (users_from j (tasks_at (n - j) j ws starts) r) (k - 1)) q))
+users_next : (t : Table) (r set i : ℕ) → i < tasks_of t
+    → users_on t r set i ≡ users_on t r (cond (uses (task_of t i) r) (with_of width set i) set) (i + 1)
+unfolding users_on
+users_next t r set i l = let e : tasks_of t - i ≡ suc (tasks_of t - (i + 1)) = omega arith in rw e (go (uses (task_of t i) r))
+  where
+    rest : List ℕ
+    rest = filter (λ (j : ℕ). uses (task_of t j) r) (range_with_len (i + 1) (tasks_of t - (i + 1)))
 
-pub down_other : (ws : List ℕ) (n : ℕ) (starts : List ℕ) (r k : ℕ) {set : ℕ} → 0 < k → k ≤ n
-    → uses (task_at ws (get_or starts (k - 1) 0)) r ≡ false → set ≡ users_down ws n starts r k → set ≡ users_down ws n starts r (k - 1)
-down_other ws n starts r k l h e inv =
-    let q : suc (k - 1) ≡ k = omega arith in
-    rw (inv, tasks_more n (k - 1) ws starts (omega arith))
-    (sym (users_other (k - 1) (task_at ws (get_or starts (k - 1) 0)) (tasks_at (n - suc (k - 1)) (suc (k - 1)) ws starts) r e
-    ∙ ap (λ (j : ℕ). users_from j (tasks_at (n - j) j ws starts) r) q))
+    go : (b : Bool) → fold (with_of width) set (cond b (i ∷ rest) rest) ≡ fold (with_of width) (cond b (with_of width set i) set) rest
+    go true = refl
+    go false = refl
 
-pub down_end : (ws : List ℕ) (map : Map) (r : ℕ) → users_down ws (min map.tasks most_tasks) map.starts r 0 ≡ users_of (table_at ws map) r
-unfolding table_at
-down_end ws map r =
-    let n = min map.tasks most_tasks in
-    let e : n - 0 ≡ n = omega arith in
-    rw e
+pub users_user : (t : Table) (r set i : ℕ) → i < tasks_of t → uses (task_of t i) r ≡ true → users_on t r (with_of width set i) (i + 1) ≡ users_on t r set i
+users_user t r set i l e = sym (users_next t r set i l ∙ rw e)
+
+pub users_other : (t : Table) (r set i : ℕ) → i < tasks_of t → uses (task_of t i) r ≡ false → users_on t r set (i + 1) ≡ users_on t r set i
+users_other t r set i l e = sym (users_next t r set i l ∙ rw e)
+
+pub users_end : (t : Table) (r set i : ℕ) → i ≡ tasks_of t → users_on t r set i ≡ set
+unfolding users_on
+users_end t r set i end = let e : tasks_of t - tasks_of t ≡ 0 = omega arith in rw (end, e)
+
+-- what the loop goes by
+pub ruleset users_steps = (task_read, tasks_at_lem, users_start, users_user, users_other, users_end)
 
 -- ---- the members of that set, and the D of each
 
@@ -79,7 +96,7 @@ visited [] n i x r d l w same ds =
 visited (task ∷ tasks) zero i x r d l w same ds = absurd (not-suc-le-zero l)
 visited (task ∷ tasks) (suc n) i x r d l w same ds =
     go
-    (visited tasks n (suc i) x r d (le_of_suc-le-suc l) (omega arith) (λ k h. same k (omega arith) ∙ users_next i task tasks r k (omega arith))
+    (visited tasks n (suc i) x r d (le_of_suc-le-suc l) (omega arith) (λ k h. same k (omega arith) ∙ user_next i task tasks r k (omega arith))
     (λ j. let e : suc i + j ≡ i + suc j = omega arith in ap d e ∙ ds (suc j)))
     (uses task r) refl
   where
@@ -105,43 +122,28 @@ users_deadlines t r l =
     visited t.tasks width 0 (users_of t r) r (λ (i : ℕ). (task_of t i).D) l (omega arith) (λ k h. refl)
     (λ j. let e : 0 + j ≡ j = omega arith in ap (λ (i : ℕ). (task_of t i).D) e)
 
--- ---- the least of them, by a visit
+-- ---- the least of them
 
-least_min : (a d : ℕ) (ds : List ℕ) → least (min a d ∷ ds) ≡ least (a ∷ d ∷ ds)
+least_fold : (a : ℕ) (ds : List ℕ) → fold min a ds ≡ least (a ∷ ds)
 unfolding least
-least_min a d [] = refl
-least_min a d (e ∷ ds) = omega arith
+least_fold a [] = refl
+least_fold a (d ∷ ds) = least_fold (min a d) ds ∙ go a d ds
+  where
+    go : (a d : ℕ) (ds : List ℕ) → least (min a d ∷ ds) ≡ least (a ∷ d ∷ ds)
+    go a d [] = refl
+    go a d (e ∷ ds) = omega arith
 
-pub floor_none : (t : Table) (r : ℕ) → tasks_of t ≤ width → users_of t r ≡ 0 → floor_of t r ≡ 0
+least_reduce : (ds : List ℕ) → unwrap_or (reduce min ds) 0 ≡ least ds
 unfolding least
-floor_none t r l e = rw (← users_deadlines t r l, e, members_zero width)
-
--- the lesser of a number and the D of a task: what the loop makes of each member
-abbrev pub lesser_d : Table → ℕ → ℕ → ℕ
-lesser_d t a i = min a (task_of t i).D
-
-least_fold : (d : ℕ → ℕ) (a : ℕ) (ks : List ℕ) → fold_of (λ (b i : ℕ). min b (d i)) a ks ≡ least (a ∷ map d ks)
-unfolding fold_of
-least_fold d a [] = sym (least_one a)
-least_fold d a (k ∷ ks) = least_fold d (min a (d k)) ks ∙ least_min a (d k) (map d ks)
-
--- `set` are all users; d is the D of the lowest of them, and `rest` are the others
-pub floor_first : (t : Table) (r : ℕ) {set d rest : ℕ} → tasks_of t ≤ width → set ≡ users_of t r → set ≢ 0 → set < 2 ^ width
-    → d ≡ (task_of t (count_trailing_zeros width set)).D → rest ≡ without_of width set (count_trailing_zeros width set)
-    → fold_of (lesser_d t) d (members width rest) ≡ floor_of t r
-floor_first t r {set} {d} {rest} l e some h de re =
-    least_fold (λ (i : ℕ). (task_of t i).D) d (members width rest)
-    ∙ rw (de, re) (ap (λ (ks : List ℕ). least (map (λ (i : ℕ). (task_of t i).D) ks)) (sym (members_step width set some h)))
-    ∙ ap (λ (x : ℕ). least (deadlines_in t x)) e ∙ ap least (users_deadlines t r l)
-
--- the next of those not visited yet, and the end: the law of a loop over a set
-pub floor_next : (t : Table) (a : ℕ) {set b d rest : ℕ} → set ≢ 0 → set < 2 ^ width → d ≡ (task_of t (count_trailing_zeros width set)).D
-    → rest ≡ without_of width set (count_trailing_zeros width set) → b ≡ min a d → fold_of (lesser_d t) b (members width rest) ≡ fold_of (lesser_d t) a (members width set)
-floor_next t a {set} some h de re be = rw (be, de, re) (sym (fold_step width (lesser_d t) a set some h))
-
-pub floor_last : (t : Table) (a : ℕ) → fold_of (lesser_d t) a (members width 0) ≡ a
-floor_last t a = fold_zero width (lesser_d t) a
+least_reduce [] = refl
+least_reduce (d ∷ ds) = least_fold d ds
 
 -- a map has no more tasks than a set has room for
-pub tasks_few : (ws : List ℕ) (map : Map) → tasks_of (table_at ws map) ≤ width
+tasks_few : (ws : List ℕ) (map : Map) → tasks_of (table_at ws map) ≤ width
 tasks_few ws map = omega (arith, tasks_at_lem ws map)
+
+pub floor_least : (ws : List ℕ) (map : Map) (r : ℕ)
+    → unwrap_or (reduce min (deadlines_in (table_at ws map) (users_of (table_at ws map) r))) 0 ≡ floor_of (table_at ws map) r
+floor_least ws map r =
+    least_reduce (deadlines_in (table_at ws map) (users_of (table_at ws map) r))
+    ∙ ap least (users_deadlines (table_at ws map) r (tasks_few ws map))

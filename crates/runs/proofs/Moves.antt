@@ -5,6 +5,7 @@ use mathlib.Core.Path.{◌≡◌, refl, sym, ap, ◌∙◌}
 use mathlib.Core.Logic.{◌≢◌}
 use mathlib.Core.Bool.{false}
 use native.Mathlib.Omega.{arith}
+use Rattle.std.specs.Prelude.{Option}
 use Rattle.table.specs.Table.{Table}
 use Rattle.numbers.specs.Answers.{TORN}
 use Rattle.numbers.proofs.Tests.{never}
@@ -12,7 +13,6 @@ use Rattle.machine.specs.Order.{who_runs}
 use Rattle.machine.specs.Reply.{EventReply, refused}
 use Rattle.machine.specs.Away.{Given, grounds_of}
 use Rattle.machine.specs.declared.Kept.{Kept}
-use Rattle.machine.specs.declared.Who.{Who}
 use Rattle.machine.proofs.Given.{Decided, away, on, decided, given_each}
 use Rattle.machine.proofs.Moves.{Moving, releases, locks, unlocks, finishes, moving, event_away, event_on}
 use Rattle.dispatch.specs.State.{state_of, table_in}
@@ -50,7 +50,7 @@ moves s ok e = go (decided (grounds_of (table_in s) s.kept e))
 -- ---- what is said tells which it was
 
 -- A move is not answered by a refusal.
-pub move_accepted : {who : Kept → Who} {table : Table} {kept next : Kept} {e : Event} {said : EventReply} (number : ℕ) →
+pub move_accepted : {who : Kept → Option ℕ} {table : Table} {kept next : Kept} {e : Event} {said : EventReply} (number : ℕ) →
     Moving who table kept e next said → said ≡ refused number → ⊥
 move_accepted number (releases i time free) h = never (cc)
 move_accepted number (locks i r l time steps next alone) h = never (cc)

@@ -13,6 +13,7 @@ use native.Mathlib.Omega.{arith}
 use lib.Dec.{ltb}
 use lib.ListN.{length, get_or, set, replicate, length-set, get_or-replicate}
 use borrow.Author.Tests.{ltb-false}
+use Rattle.std.specs.Prelude.{Option, Some}
 use Rattle.sets.specs.Member.{width, has, with_of}
 use Rattle.sets.proofs.Digit.{has_zero}
 use Rattle.sets.proofs.Change.{has_with_same, has_with_other}
@@ -29,8 +30,6 @@ use Rattle.machine.specs.Machine.{no_job_since, new_job, next_in, held_of, lower
 use Rattle.machine.specs.Fields.{with_clock, with_ready, with_row}
 use Rattle.machine.specs.declared.Job.{Job}
 use Rattle.machine.specs.declared.Kept.{Kept}
-use Rattle.machine.specs.declared.Who.{Who}
-use Rattle.machine.specs.declared.Who.TheVariants.{Runs}
 use Rattle.runs.specs.Run.{Event}
 use Rattle.machine.proofs.Moves.{Timely, Releasable, Moving, releases, locks, unlocks, finishes}
 use Rattle.machine.proofs.Rows.{Changed, rows_after, ready_after, pairs_after, held_in, released_changes, locked_changes, unlocked_changes, cleared_changes}
@@ -315,7 +314,7 @@ module _ {table : Table} (valid : Valid table) {kept : Kept} (shape : Shape tabl
 
 -- ---- every move, for any choice of the running job among the ready ones
 
-module _ (who : Kept → Who) (who_ready : (kept : Kept) (i : ℕ) → who kept ≡ Runs i → has kept.ready i ≡ true) {table : Table} (valid : Valid table)
+module _ (who : Kept → Option ℕ) (who_ready : (kept : Kept) (i : ℕ) → who kept ≡ Some i → has kept.ready i ≡ true) {table : Table} (valid : Valid table)
   where
     pub kept_shape : {kept next : Kept} {e : Event} {said : EventReply} → Moving who table kept e next said → Shape table kept → Shape table next
     kept_shape (releases i time free) shape = released_shape valid shape free

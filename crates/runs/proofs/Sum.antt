@@ -4,7 +4,7 @@ use mathlib.Core.Path.{◌≡◌, refl, ap₂}
 use mathlib.Core.Logic.{◌≢◌, ◌⊎◌, inl, inr}
 use native.Mathlib.Nat.{not-suc-le-zero}
 use native.Mathlib.Omega.{arith}
-use Rattle.machine.proofs.Rows.{same_or_not}
+use Rattle.std.proofs.lemmas.Bool.{cases_eq}
 
 unfoldable pub sum_below : ℕ → (ℕ → ℕ) → ℕ
 sum_below zero f = zero
@@ -18,7 +18,7 @@ sum_same (suc n) f g e = ap₂ ◌+◌ (sum_same n f g (λ j h. e j (omega arith
 pub sum_raised : (n : ℕ) (f g : ℕ → ℕ) (i : ℕ) → i < n → ((j : ℕ) → j ≢ i → f j ≡ g j) → f i < g i → sum_below n f < sum_below n g
 unfolding sum_below
 sum_raised zero f g i h e l = absurd (not-suc-le-zero h)
-sum_raised (suc n) f g i h e l = go (same_or_not n i) (sum_raised n f g i)
+sum_raised (suc n) f g i h e l = go (cases_eq n i) (sum_raised n f g i)
   where
     go : (n ≡ i) ⊎ (n ≢ i) → (i < n → ((j : ℕ) → j ≢ i → f j ≡ g j) → f i < g i → sum_below n f < sum_below n g) →
         sum_below n f + f n < sum_below n g + g n

@@ -21,7 +21,8 @@ use Rattle.torn.specs.Torn.{not_sound, torn_table, torn_clock, torn_ready, torn_
 use Rattle.dispatch.specs.Torn.{torn}
 use Rattle.dispatch.specs.declared.State.{State}
 use Rattle.numbers.proofs.Any.{any_false}
-use Rattle.numbers.proofs.Tests.{and_fails, or_fails}
+use Rattle.std.proofs.lemmas.Bool.{or_from}
+use Rattle.numbers.proofs.Tests.{and_fails}
 use Rattle.runs.proofs.Shape.{Stored, Shape, weight, potential}
 use Rattle.runs.proofs.Sum.{sum_most}
 
@@ -47,9 +48,9 @@ module _ {table : Table} (valid : Valid table) {kept : Kept} (shape : Shape tabl
 
   whole_row : (job : Job) → Stored job → row_too_late job ≡ false
   whole_row job h =
-      or_fails _ _ (not_late job.base h.base)
-      (or_fails _ _ (not_late job.active h.active)
-      (or_fails _ _ (any_false most_held _ (λ k l. not_late (get_or job.saved k 0) (h.saved k))) (not_late job.last h.last)))
+      or_from _ _ (not_late job.base h.base)
+      (or_from _ _ (not_late job.active h.active)
+      (or_from _ _ (any_false most_held _ (λ k l. not_late (get_or job.saved k 0) (h.saved k))) (not_late job.last h.last)))
 
   whole_times : torn_times kept ≡ false
   unfolding torn_times
@@ -81,7 +82,7 @@ module _ {table : Table} (valid : Valid table) {kept : Kept} (shape : Shape tabl
   unfolding torn_numbers
   whole_numbers =
       any_false most_tasks _
-      (λ i l. and_fails (has kept.ready i) _ (λ h. or_fails (same_number kept i) _ (others i h) (lt-leb kept.count (row_of kept i).number (shape.going i h).number)))
+      (λ i l. and_fails (has kept.ready i) _ (λ h. or_from (same_number kept i) _ (others i h) (lt-leb kept.count (row_of kept i).number (shape.going i h).number)))
     where
       others : (i : ℕ) → has kept.ready i ≡ true → same_number kept i ≡ false
       others i h = any_false i _ (λ j l. and_fails (has kept.ready j) _ (λ g. ne_eqb _ _ (shape.numbers j i (omega arith) g h)))
@@ -94,17 +95,17 @@ table_in_lem s ok = ap table_from ok
 
 whole_table : {table : Table} (s : State) → s.length ≤ room → check_of (words_in s) ≡ sound table → torn_table s.words s.length ≡ false
 unfolding torn_table
-whole_table s fits ok = or_fails _ _ (le-ltb room s.length fits) (ap not_sound ok)
+whole_table s fits ok = or_from _ _ (le-ltb room s.length fits) (ap not_sound ok)
 
 pub shape_untorn : {table : Table} → Valid table → (s : State) → s.length ≤ room → check_of (words_in s) ≡ sound table → Shape table s.kept →
     torn s ≡ false
 unfolding torn torn_of torn_by
 shape_untorn valid s fits ok shape =
-    or_fails _ _ (whole_table s fits ok)
+    or_from _ _ (whole_table s fits ok)
     (rw (ap table_from ok)
-    (or_fails _ _ (whole_clock valid shape)
-    (or_fails _ _ (whole_ready valid shape)
-    (or_fails _ _ (whole_place valid shape)
-    (or_fails _ _ (whole_times valid shape)
-    (or_fails _ _ (whole_last valid shape)
-    (or_fails _ _ (whole_count valid shape) (whole_numbers valid shape))))))))
+    (or_from _ _ (whole_clock valid shape)
+    (or_from _ _ (whole_ready valid shape)
+    (or_from _ _ (whole_place valid shape)
+    (or_from _ _ (whole_times valid shape)
+    (or_from _ _ (whole_last valid shape)
+    (or_from _ _ (whole_count valid shape) (whole_numbers valid shape))))))))

@@ -12,7 +12,7 @@ use Rattle.text.specs.Decimal.{digits_in, digits}
 use Rattle.text.proofs.Digits.{digits_low, digits_high}
 use Rattle.script.specs.Signs.{is_digit}
 use Rattle.script.specs.Number.{digits_only, value_from, value_of, number_said}
-use Rattle.script.specs.declared.Number.TheVariants.{Value}
+use Rattle.std.specs.Prelude.{Ok}
 
 -- What digits say behind others, and one more digit.
 value_append : (v : ℕ) (x y : List ℕ) → value_from v (x ++ y) ≡ value_from (value_from v x) y
@@ -73,7 +73,7 @@ pub digits_digits : (n : ℕ) → digits_only (digits n) ≡ true
 digits_digits n = only_below (suc n) n (omega arith)
 
 -- A number that is written is read back, wherever it has room.
-pub read_back : (most n : ℕ) → n ≤ most → number_said most (digits n) ≡ Value n
+pub read_back : (most n : ℕ) → n ≤ most → number_said most (digits n) ≡ Ok n
 read_back most n h = rw (digits_digits n, read_digits n, le-leb n most h)
 
 -- What a word of digits without a leading zero reads as is written as that word.

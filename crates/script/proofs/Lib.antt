@@ -1,7 +1,7 @@
 -- Laws of this crate's definitions.
 pub mod Decimal
-pub mod Words
-pub mod Scan
-pub mod Most
-pub mod Step
+pub mod Split
+pub mod Digits
+pub mod Named
+pub mod Entries
 pub mod Says

@@ -3,4 +3,3 @@ pub mod Signs
 pub mod Number
 pub mod Words
 pub mod Grammar
-pub mod Cursor

@@ -1,10 +1,9 @@
 -- Numbers as words: how one is read. That writing is the inverse is proved in `proofs/Decimal.antt`.
 -- Assumes nothing.
-use Rattle.std.specs.Prelude.{ℕ, ◌+◌, ◌*◌, ◌-◌, Bool, true, cond, ◌&&◌, List, [], ◌∷◌, leb}
+use Rattle.std.specs.Prelude.{ℕ, ◌+◌, ◌*◌, ◌-◌, Bool, true, cond, ◌&&◌, List, [], ◌∷◌, leb, Result, Ok, Err}
 use Rattle.script.specs.Signs.{is_digit}
+use Rattle.text.specs.declared.Fault.{Fault}
 use Rattle.text.specs.declared.Fault.TheVariants.{Malformed, Large}
-use Rattle.script.specs.declared.Number.{Number}
-use Rattle.script.specs.declared.Number.TheVariants.{Value, Amiss}
 
 -- "A number is a word of digits only"
 unfoldable pub digits_only : List ℕ → Bool
@@ -21,9 +20,9 @@ abbrev pub value_of : List ℕ → ℕ
 value_of w = value_from 0 w
 
 -- `number too large`: "a number doesn't fit its place"
-abbrev pub bounded : ℕ → ℕ → Number
-bounded most n = cond (leb n most) (Value n) (Amiss Large)
+abbrev pub bounded : ℕ → ℕ → Result ℕ Fault
+bounded most n = cond (leb n most) (Ok n) (Err Large)
 
 -- `malformed number`: "a word that isn't digits only stands where a number must stand"
-abbrev pub number_said : ℕ → List ℕ → Number
-number_said most w = cond (digits_only w) (bounded most (value_of w)) (Amiss Malformed)
+abbrev pub number_said : ℕ → List ℕ → Result ℕ Fault
+number_said most w = cond (digits_only w) (bounded most (value_of w)) (Err Malformed)

@@ -2,14 +2,13 @@
 // every room. Answers are written by the crate `lines`.
 #![tactic(auto)]
 
-use text::Fault;
-
+mod number;
 pub mod read;
+mod words;
 
 // What a line says. A table says how many words it lends; `read::table_words` hands them out.
 #[derive(Clone, Copy)]
 pub enum Command {
-    Nothing,
     Table(usize),
     Check,
     Start,
@@ -17,48 +16,4 @@ pub enum Command {
     Step(u64),
     Verdict,
     Show,
-    Wrong(Fault),
-}
-
-// Which command a line's first word is.
-#[derive(Clone, Copy)]
-pub enum Keyword {
-    Table,
-    Check,
-    Start,
-    Release,
-    Step,
-    Verdict,
-    Show,
-    Another,
-}
-
-// A word as a number.
-#[derive(Clone, Copy)]
-pub enum Number {
-    Value(u64),
-    Amiss(Fault),
-}
-
-// A word of a line, from a place up to another; none where the two are the same.
-#[derive(Clone, Copy)]
-pub struct Span {
-    pub from: usize,
-    pub to: usize,
-}
-
-// What stands at the front of a line's rest: a number with the place behind it, or what is wrong.
-#[derive(Clone, Copy)]
-pub enum Front {
-    Got(u64, usize),
-    Bad(Fault),
-}
-
-// What stands at the front of a table's rest: nothing, a `/` or a word with the place behind it, or what is wrong.
-#[derive(Clone, Copy)]
-pub enum Entry {
-    End,
-    Slash(usize),
-    Word(u32, usize),
-    Amiss(Fault),
 }

@@ -10,7 +10,7 @@ use lib.Dec.{ltb, eqb}
 use lib.Pow.{pow_pos}
 use borrow.Author.Tests.{eqb-true, eqb-false, lt-ltb, le-ltb, ltb-true, ltb-false}
 use Rattle.sets.specs.Member.{bit, has, with_of, without_of}
-use Rattle.sets.proofs.Digit.{bit_low, bit_suc, half_lt, bit_has, bit_not, has_bit, not_bit, bit_weighs, has_beyond}
+use Rattle.sets.proofs.Digit.{bit_low, bit_suc, half_lt, bit_has, bit_not, has_bit, not_bit, bit_weighs}
 
 -- ---- the digits of x + 2 ^ k, where digit k of x is 0
 

@@ -4,11 +4,11 @@
 use mathlib.Core.Path.{◌≡◌, refl, sym, ap, ap₂, ◌∙◌}
 use mathlib.Core.Logic.{◌≢◌}
 use mathlib.Core.Bool.{true, false}
-use Prim.Native.Nat.{ℕ, zero, suc, ◌+◌, ◌/◌, ◌%◌, ◌^◌, ◌≤◌, ◌<◌}
+use Prim.Native.Nat.{ℕ, zero, suc, ◌+◌, ◌/◌, ◌%◌, ◌^◌, ◌<◌}
 use native.Mathlib.Nat.{pow-suc}
 use native.Mathlib.Omega.{arith}
 use lib.Arith.{bin_ind}
-use lib.Count.{ones, ones_in, ones_step, ones-le, count_trailing_zeros}
+use lib.Count.{ones, ones_in, ones_step, count_trailing_zeros}
 use Rattle.sets.specs.Member.{bit, has, with_of, without_of, ones_of, size_of}
 use Rattle.sets.proofs.Digit.{bit_low, bit_suc, not_bit}
 use Rattle.sets.proofs.Change.{half_add, with_new, has_without_same, with_without}

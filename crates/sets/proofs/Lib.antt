@@ -6,3 +6,4 @@ pub mod Count
 pub mod Visit
 pub mod Example
 pub mod Search
+pub mod Iterate

@@ -83,3 +83,10 @@ and_not_one w x k l h = go (has x k) refl
 -- `(x >> k) & 1 == 1`
 pub has_code : (x k : ℕ) → eqb (bit_and (x / 2 ^ k) 1) 1 ≡ has x k
 has_code x k = ap (λ (d : ℕ). eqb d 1) (and_mask (x / 2 ^ k) 1) ∙ sym (has_shift x k)
+
+-- `x | (1 << k)` and `x & !(1 << k)`, as the code writes them
+pub with_code : (w x k : ℕ) → k < w → bit_or x ((1 * 2 ^ k) % 2 ^ w) ≡ with_of w x k
+with_code w x k l = ap (bit_or x) (one_shifted w k l) ∙ or_one w x k l
+
+pub without_code : (w x k : ℕ) → k < w → x < 2 ^ w → bit_and x (2 ^ w - 1 - (1 * 2 ^ k) % 2 ^ w) ≡ without_of w x k
+without_code w x k l h = ap (λ (p : ℕ). bit_and x (2 ^ w - 1 - p)) (one_shifted w k l) ∙ and_not_one w x k l h

@@ -3,17 +3,16 @@
 -- Assumes nothing.
 use mathlib.Core.Path.{◌≡◌, refl, sym, ◌∙◌}
 use mathlib.Core.Logic.{◌≢◌, ◌⊎◌, inl, inr, ◌↔◌}
-use mathlib.Core.Bool.{true, false, not, ◌&&◌}
+use mathlib.Core.Bool.{true, false}
 use Prim.Native.Nat.{ℕ, zero, suc, ◌*◌, ◌/◌, ◌%◌, ◌^◌, ◌≤◌, ◌<◌, zero-le, suc-le-suc}
-use native.Mathlib.Nat.{pow-suc, not-suc-le-zero, le_of_suc-le-suc, le_trans, lt_of_not-le, lt_of_le_of_lt, le_antisymm}
+use native.Mathlib.Nat.{pow-suc, not-suc-le-zero, le_of_suc-le-suc, le_trans, lt_of_not-le}
 use native.Mathlib.Omega.{arith}
 use lib.Arith.{lt-one}
 use lib.Pow.{pow_mono}
 use lib.Count.{count_trailing_zeros}
-use lib.Dec.{eqb}
 use Rattle.sets.specs.Member.{bit, has, without_of}
-use Rattle.sets.proofs.Digit.{bit_low, bit_suc, half_lt, bit_has, bit_not, has_bit, not_bit, has_suc, bit_weighs, own_width}
-use Rattle.sets.proofs.Change.{has_without, without_less}
+use Rattle.sets.proofs.Digit.{bit_low, bit_suc, half_lt, bit_has, bit_not, has_bit, has_suc, bit_weighs, own_width}
+use Rattle.sets.proofs.Change.{without_less}
 
 not_lt_le : {a b : ℕ} → (b < a → ⊥) → a ≤ b
 not_lt_le f = le_of_suc-le-suc (lt_of_not-le f)

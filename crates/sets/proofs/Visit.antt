@@ -1,6 +1,5 @@
--- Members visited by trailing zeros are exactly the members, lowest first, each once: what a loop
---     while rest != 0 { let k = u32::trailing_zeros(rest); .. rest = sets::without(rest, k); }
--- goes by is `members_zero` and `members_step` (or `fold_zero` and `fold_step`). Stated over the width w.
+-- Members visited by trailing zeros are exactly the members, lowest first, each once: what the iterator `sets::members` goes by is
+-- `members_zero` and `members_step`, and what is made of its items `fold_zero` and `fold_step`. Stated over the width w.
 -- Assumes nothing.
 use mathlib.Core.Path.{◌≡◌, refl, sym, ap, ◌∙◌}
 use mathlib.Core.Logic.{◌≢◌, ◌⊎◌, inl, inr}

@@ -1,11 +1,11 @@
--- How a loop goes through a set: it takes the lowest member by trailing zeros, takes it out, and goes on. The laws of `proofs/Visit.antt` say
+-- How `sets::members` goes through a set: it takes the lowest member by trailing zeros, takes it out, and goes on. The laws of `proofs/Visit.antt` say
 -- that this visits exactly the members of `specs/Member.antt`, lowest first, each once.
 -- Assumes nothing.
 use Rattle.std.specs.Prelude.{List, [], ◌∷◌, ℕ, zero, suc, ◌≤◌}
 use Rattle.std.specs.Int.Count.{count_trailing_zeros}
 use Rattle.sets.specs.Member.{without_of}
 
--- the first n members of x that a loop meets: the lowest, and those of the set without it
+-- the first n members of x that come: the lowest, and those of the set without it
 unfoldable pub visit : (n w x : ℕ) → List ℕ
 visit zero w x = []
 visit (suc n) w x = count_trailing_zeros w x ∷ visit n w (without_of w x (count_trailing_zeros w x))

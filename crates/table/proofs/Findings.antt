@@ -1,43 +1,49 @@
--- Laws of a finding: it is `Sound`, or it is a refusal, which has a number and a place. For a function that goes on only where nothing is refused:
---     let Finding::Sound = finding else { .. };
+-- Laws of a finding, and of what a survey's promise tells.
 -- Assumes nothing.
 use Prim.Native.Nat.{ℕ}
-use mathlib.Core.Path.{◌≡◌, refl, ap}
+use mathlib.Core.Path.{◌≡◌, refl, sym, ap, ◌∙◌}
 use mathlib.Core.List.{List}
 use Rattle.numbers.specs.Answers.{SHORT, COUNT, RANGE, STEP, NEST, CROWDED}
-use Rattle.numbers.proofs.Tests.{never}
-use Rattle.table.specs.Said.{passes, says, said_of, Surveyed, survey_said, survey_of, check_said}
-use Rattle.table.specs.Map.{map_of}
+use Rattle.table.specs.Said.{passes, says, refusal_said, Surveyed, survey_said, survey_of, check_said}
+use Rattle.table.specs.Map.{no_map, map_of}
+use Rattle.std.specs.Prelude.{Result, Ok, Err}
+use Rattle.std.specs.Result.{IsErrAnd, result_unwrap_or}
+use Rattle.std.proofs.lemmas.Result.{err_from_is_err_and}
+use Rattle.table.specs.declared.Map.{Map}
 use Rattle.table.specs.declared.Finding.{Finding}
-use Rattle.table.specs.declared.Finding.TheVariants.{Sound, Short, Count, Range, Step, Nest, Crowded}
-use Rattle.table.specs.declared.Survey.{Survey}
+use Rattle.table.specs.declared.Finding.TheVariants as finding
 
-pub record Refusal (found : Finding) : Type 0 where
+-- Every finding has a number and a place.
+pub record Refusal (finding : Finding) : Type 0 where
   pub number : ℕ
   pub place : ℕ
-  pub said : said_of found ≡ says number place
+  pub said : refusal_said finding ≡ says number place
 
-pub refusal : (found : Finding) → (found ≡ Sound → ⊥) → Refusal found
-refusal Sound n = absurd (n refl)
-refusal (Short place) n = record { number = SHORT; place = place; said = refl }
-refusal (Count place) n = record { number = COUNT; place = place; said = refl }
-refusal (Range place) n = record { number = RANGE; place = place; said = refl }
-refusal (Step place) n = record { number = STEP; place = place; said = refl }
-refusal (Nest place) n = record { number = NEST; place = place; said = refl }
-refusal (Crowded place) n = record { number = CROWDED; place = place; said = refl }
+pub refusal : (finding : Finding) → Refusal finding
+refusal (finding.Short place) = record { number = SHORT; place = place; said = refl }
+refusal (finding.Count place) = record { number = COUNT; place = place; said = refl }
+refusal (finding.Range place) = record { number = RANGE; place = place; said = refl }
+refusal (finding.Step place) = record { number = STEP; place = place; said = refl }
+refusal (finding.Nest place) = record { number = NEST; place = place; said = refl }
+refusal (finding.Crowded place) = record { number = CROWDED; place = place; said = refl }
 
-pub is_sound : (found : Finding) → said_of found ≡ passes → found ≡ Sound
-is_sound Sound e = refl
-is_sound (Short place) e = never (cc)
-is_sound (Count place) e = never (cc)
-is_sound (Range place) e = never (cc)
-is_sound (Step place) e = never (cc)
-is_sound (Nest place) e = never (cc)
-is_sound (Crowded place) e = never (cc)
+-- What a survey's promise tells of a list that passes, and of one that is refused.
+pub survey_passes : (map : Map) (ws : List ℕ) → survey_said (Ok map) ≡ survey_of ws → check_said ws ≡ passes
+survey_passes map ws e = sym (ap (λ (s : Surveyed). s.said) e)
 
--- A survey's promise tells what its finding says, and its map.
-pub survey_said_lem : (survey : Survey) (ws : List ℕ) → survey_said survey ≡ survey_of ws → said_of survey.finding ≡ check_said ws
-survey_said_lem survey ws e = ap (λ (s : Surveyed). s.said) e
+pub survey_map : (map : Map) (ws : List ℕ) → survey_said (Ok map) ≡ survey_of ws → map ≡ map_of ws
+survey_map map ws e = ap (λ (s : Surveyed). s.map) e
 
-pub survey_map : (survey : Survey) (ws : List ℕ) → survey_said survey ≡ survey_of ws → survey.map ≡ map_of ws
-survey_map survey ws e = ap (λ (s : Surveyed). s.map) e
+pub survey_refuses : (finding : Finding) (ws : List ℕ) → survey_said (Err finding) ≡ survey_of ws → check_said ws ≡ refusal_said finding
+survey_refuses finding ws e = sym (ap (λ (s : Surveyed). s.said) e)
+
+-- The map of any list.
+pub survey_map_of : (survey : Result Map Finding) (ws : List ℕ) → survey_said survey ≡ survey_of ws → result_unwrap_or survey no_map ≡ map_of ws
+survey_map_of (Ok map) ws e = ap (λ (s : Surveyed). s.map) e
+survey_map_of (Err finding) ws e = ap (λ (s : Surveyed). s.map) e
+
+-- What the exit of a `?` returns.
+pub exits : {A : Type 0} (result : Result A Finding) (finding : Finding) → IsErrAnd result (λ found. found ≡ finding) → result ≡ Err finding
+exits {A} result finding h =
+    let p = err_from_is_err_and result h in
+    p.1 ∙ ap {B = Result A Finding} Err p.2

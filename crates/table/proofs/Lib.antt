@@ -1,5 +1,7 @@
 -- The laws of tables.
 pub mod Findings
+pub mod Levels
+pub mod Reading
 pub mod Plans
 pub mod Claimed
 pub mod Floors
@@ -11,7 +13,5 @@ pub mod Cut
 pub mod Laid
 pub mod Breaking
 pub mod Example
-pub mod Reading
-pub mod Arrays
 pub mod Starts
 pub mod Checked

@@ -9,7 +9,7 @@ use native.Mathlib.Nat.{not-suc-le-zero, le_of_suc-le-suc, le_trans}
 use native.Mathlib.Numerals.{add-one}
 use native.Mathlib.Omega.{arith}
 use lib.Dec.{eqb, lit<}
-use borrow.Author.Tests.{eq-eqb}
+use borrow.Author.Tests.{eq-eqb, lt-ltb}
 use lib.ListN.{length, get_or, take, drop}
 use Rattle.sets.specs.Member.{width, has, size_of}
 use Rattle.sets.proofs.Change.{with_below}
@@ -20,9 +20,10 @@ use Rattle.table.specs.Held.{Section, held_after, held_from, held_by, holds, hel
 use Rattle.table.specs.Valid.{Allowed, Nested, ends, locks, unlocks}
 use Rattle.table.specs.Floor.{step_locks, locks as locksIn}
 use Rattle.table.specs.Map.{next_of}
-use Rattle.table.specs.Walk.{Apart}
-use Rattle.numbers.proofs.Tests.{never, or_left, or_right}
-use Rattle.table.proofs.Arrays.{has_held as set-held}
+use Rattle.table.specs.Levels.{apart}
+use Rattle.std.proofs.lemmas.Bool.{or_left, or_right}
+use Rattle.numbers.proofs.Tests.{never}
+use Rattle.table.proofs.Levels.{has_held as set-held}
 use Rattle.table.specs.declared.Next.TheVariants.{Lock, Unlock, Finish}
 
 -- Sections each of which was allowed while those below it were held.
@@ -185,9 +186,10 @@ open_most none = zero-le
 open_most (more a o) = a.fifth
 
 -- No resource is held twice.
-open_apart : {m c : ℕ} {held : List Section} → m ≤ width → Open m c held → Apart held
-open_apart h none = tt
-open_apart h (more a o) = (le_trans a.resource h, (a.free, open_apart h o))
+open_apart : {m c : ℕ} {held : List Section} → m ≤ width → Open m c held → apart held ≡ true
+unfolding apart
+open_apart h none = refl
+open_apart {held = s ∷ held} h (more a o) = rw (lt-ltb s.resource width (le_trans a.resource h), a.free, open_apart h o)
 
 -- "A set of tasks or resources is one unsigned number with a bit for each member": the held resources as a set are the held resources.
 open_has : {m c : ℕ} {held : List Section} → m ≤ width → Open m c held → (r : ℕ) → has (held_set held) r ≡ holds held r

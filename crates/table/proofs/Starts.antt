@@ -1,44 +1,38 @@
--- The starts that the walk has marked so far: the places before the present task are those of `starts_from`, the places from it on are still 0.
--- Assumes nothing.
-use Prim.Native.Nat.{ℕ, suc, ◌+◌, ◌-◌, ◌≤◌, ◌<◌}
-use mathlib.Core.Path.{◌≡◌, refl, sym, ◌∙◌}
-use mathlib.Core.List.{List, [], ◌∷◌, ◌++◌, append_assoc}
+-- The starts that the walk has marked so far, and those that it marks behind them (`starts_from`). Assumes nothing.
+use Prim.Native.Nat.{ℕ, zero, suc, ◌+◌, ◌-◌, ◌≤◌, ◌<◌}
+use mathlib.Core.Path.{◌≡◌, refl, sym, ap, ◌∙◌}
+use mathlib.Core.List.{List, ◌++◌, append_assoc, append-nil}
 use native.Mathlib.Numerals.{add-one}
 use native.Mathlib.Omega.{arith}
-use lib.ListN.{length, get_or, set, take, drop, replicate, length-set, take-append-drop}
-use lib.Seq.{take-suc-set, drop-set-lt, drop-cons}
-use Rattle.table.specs.Limits.{most_tasks, at_tasks}
+use lib.ListN.{length, set, take, drop, replicate, length-take, length-replicate}
+use lib.Seq.{take-suc-set, take-length}
+use Rattle.std.proofs.lemmas.List.{drop-replicate}
 use Rattle.table.specs.Map.{behind, starts_from, padded}
+use Rattle.table.proofs.Padded.{padded_append}
 
-pub record Marked (n : ℕ) (ws : List ℕ) (i at : ℕ) (starts : List ℕ) : Type 0 where
-  pub long : length starts ≡ most_tasks
-  pub past : take i starts ++ padded (most_tasks - i) (starts_from (n - i) ws at) ≡ padded most_tasks (starts_from n ws at_tasks)
-  pub ahead : drop i starts ≡ padded (most_tasks - i) []
-
-pub marked_none : (n : ℕ) (ws : List ℕ) → Marked n ws 0 at_tasks (replicate most_tasks 0)
-unfolding padded
-marked_none n ws =
-    let e : n - 0 ≡ n = omega arith in
-    record { long = refl; past = rw e; ahead = refl }
-
-pub marked_more : (n : ℕ) (ws : List ℕ) (i at : ℕ) (starts : List ℕ) → i < n → n ≤ most_tasks → Marked n ws i at starts → Marked n ws (i + 1) (behind ws at) (set starts i at)
-unfolding starts_from padded
-marked_more n ws i at starts h k m =
-    let l : i < length starts = omega (arith, m.long) in
-    let e : most_tasks - i ≡ suc (most_tasks - suc i) = omega arith in
-    let f : n - i ≡ suc (n - suc i) = omega arith in
-    let p : take i starts ++ (at ∷ padded (most_tasks - suc i) (starts_from (n - suc i) ws (behind ws at))) ≡ padded most_tasks (starts_from n ws at_tasks) = rw (e, f) at m.past in
-    let q : get_or starts i 0 ∷ drop (suc i) starts ≡ 0 ∷ padded (most_tasks - suc i) [] = sym (drop-cons starts i 0 l) ∙ rw e at m.ahead in
-    let t : drop (suc i) starts ≡ padded (most_tasks - suc i) [] = cc in
-    rw add-one record {
-      long = simp length-set m.long;
-      past = rw (take-suc-set starts i at l) (rw append_assoc p);
-      ahead = drop-set-lt (suc i) starts i at (omega arith) ∙ t;
-    }
-
-pub marked_all : (n : ℕ) (ws : List ℕ) (i at : ℕ) (starts : List ℕ) → i ≡ n → Marked n ws i at starts → starts ≡ padded most_tasks (starts_from n ws at_tasks)
+pub start_marked : (n left i at : ℕ) (ws starts whole : List ℕ) → n ≡ suc left → i < length starts → take i starts ++ starts_from n ws at ≡ whole →
+    take (i + 1) (set starts i at) ++ starts_from left ws (behind ws at) ≡ whole
 unfolding starts_from
-marked_all n ws i at starts e m =
-    let f : n - i ≡ 0 = omega arith in
-    let p : take i starts ++ padded (most_tasks - i) [] ≡ padded most_tasks (starts_from n ws at_tasks) = rw f at m.past in
-    sym (take-append-drop i starts) ∙ (rw m.ahead p)
+start_marked n left i at ws starts whole e h marked =
+    let p : take i starts ++ starts_from (suc left) ws at ≡ whole = rw e at marked in
+    rw (add-one, take-suc-set starts i at h) (rw append_assoc p)
+
+pub starts_marked : (left i at : ℕ) (ws starts whole : List ℕ) → left ≡ 0 → i ≡ length starts → take i starts ++ starts_from left ws at ≡ whole → starts ≡ whole
+unfolding starts_from
+starts_marked left i at ws starts whole none all e =
+    let f : take (length starts) starts ++ starts_from 0 ws at ≡ whole = rw (all, none) at e in
+    sym (append-nil (take (length starts) starts) ∙ take-length starts) ∙ f
+
+starts_length : (n : ℕ) (ws : List ℕ) (at : ℕ) → length (starts_from n ws at) ≡ n
+unfolding starts_from
+starts_length zero ws at = refl
+starts_length (suc n) ws at = ap suc (starts_length n ws (behind ws at))
+
+-- As many starts as tasks are marked in an array of zeros.
+pub starts_room : (k n : ℕ) → n ≤ k → length {A = ℕ} (take n (replicate k 0)) ≡ n
+starts_room k n h = omega (arith, length-take {A = ℕ}, length-replicate {A = ℕ})
+
+pub starts_padded : (k n : ℕ) (ws : List ℕ) (at : ℕ) → n ≤ k → starts_from n ws at ++ drop n (replicate k 0) ≡ padded k (starts_from n ws at)
+starts_padded k n ws at h =
+    let l : k - length (starts_from n ws at) ≡ k - n = ap (λ (x : ℕ). k - x) (starts_length n ws at) in
+    rw (padded_append k (starts_from n ws at) (omega (arith, starts_length n ws at)), drop-replicate {X = ℕ} n k 0, l)

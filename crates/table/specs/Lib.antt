@@ -12,4 +12,5 @@ pub mod Floor
 pub mod Map
 pub mod Innermost
 pub mod Said
+pub mod Levels
 pub mod Walk

@@ -1,12 +1,11 @@
 -- What an answer of this crate says, in document 01's numbers and values. Assumes nothing.
-use Rattle.std.specs.Prelude.{ℕ, List}
+use Rattle.std.specs.Prelude.{ℕ, List, Result, Ok, Err}
 use Rattle.table.specs.Check.{Checked, sound, refused, check_of}
-use Rattle.table.specs.Map.{map_of}
+use Rattle.table.specs.Map.{no_map, map_of}
 use Rattle.numbers.specs.Answers.{SHORT, COUNT, RANGE, STEP, NEST, CROWDED}
 use Rattle.table.specs.declared.Finding.{Finding}
 use Rattle.table.specs.declared.Map.{Map}
-use Rattle.table.specs.declared.Survey.{Survey}
-use Rattle.table.specs.declared.Finding.TheVariants.{Sound, Short, Count, Range, Step, Nest, Crowded}
+use Rattle.table.specs.declared.Finding.TheVariants.{Short, Count, Range, Step, Nest, Crowded}
 
 -- That a list passes, or a refusal's number and place.
 pub data CheckReply : Type 0 where
@@ -14,14 +13,18 @@ pub data CheckReply : Type 0 where
   says : ℕ → ℕ → CheckReply
 
 -- The number of each refusal, as document 01's table has it.
-abbrev pub said_of : Finding → CheckReply
-said_of Sound = passes
-said_of (Short place) = says SHORT place
-said_of (Count place) = says COUNT place
-said_of (Range place) = says RANGE place
-said_of (Step place) = says STEP place
-said_of (Nest place) = says NEST place
-said_of (Crowded place) = says CROWDED place
+abbrev pub refusal_said : Finding → CheckReply
+refusal_said (Short place) = says SHORT place
+refusal_said (Count place) = says COUNT place
+refusal_said (Range place) = says RANGE place
+refusal_said (Step place) = says STEP place
+refusal_said (Nest place) = says NEST place
+refusal_said (Crowded place) = says CROWDED place
+
+-- An answer that is no refusal says that the list passes, whatever is given with it.
+abbrev pub said_of : {A : Type 0} → Result A Finding → CheckReply
+said_of (Ok x) = passes
+said_of (Err finding) = refusal_said finding
 
 -- What the check has to say of what a list is.
 abbrev pub finding_said : Checked → CheckReply
@@ -37,8 +40,10 @@ pub record Surveyed : Type 0 where
   pub said : CheckReply
   pub map : Map
 
-abbrev pub survey_said : Survey → Surveyed
-survey_said survey = record { said = said_of survey.finding; map = survey.map }
+-- A refused list's map has zeros.
+abbrev pub survey_said : Result Map Finding → Surveyed
+survey_said (Ok map) = record { said = passes; map = map }
+survey_said (Err finding) = record { said = refusal_said finding; map = no_map }
 
 abbrev pub survey_of : List ℕ → Surveyed
 survey_of ws = record { said = check_said ws; map = map_of ws }

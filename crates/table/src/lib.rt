@@ -9,15 +9,14 @@ mod walk;
 mod words;
 
 ghost use Rattle.std.specs.Prelude.{◌≡◌};
-ghost use Rattle.table.specs.Said.{said_of, number_in, place_in};
+ghost use Rattle.table.specs.Said.{refusal_said, number_in, place_in};
 
 use limits::TASKS;
 use numbers::answers::{COUNT, CROWDED, NEST, RANGE, SHORT, STEP};
 
-// What the check finds: sound, or the refusal that document 01 or request 105 names, with its place (a word index).
-#[derive(Clone, Copy)]
+// What the check finds in a list that it refuses: what document 01 or request 105 names, with its place (a word index).
+#[derive(Clone, Copy, Debug, PartialEq, Eq)]
 pub enum Finding {
-    Sound,
     Short(usize),
     Count(usize),
     Range(usize),
@@ -27,12 +26,11 @@ pub enum Finding {
 }
 
 impl Finding {
-    // Document 01's number; of a sound list 0, which is no refusal's.
+    // Document 01's number.
     pub fn number(self) -> u32
-        ensures { result ≡ number_in (said_of self) }
+        ensures { result ≡ number_in (refusal_said self) }
     {
         match self {
-            Finding::Sound => 0,
             Finding::Short(_) => SHORT,
             Finding::Count(_) => COUNT,
             Finding::Range(_) => RANGE,
@@ -42,12 +40,11 @@ impl Finding {
         }
     }
 
-    // The place, a word index; of a sound list 0.
+    // The place, a word index. One arm a variant: an or-pattern over the six is as long.
     pub fn place(self) -> usize
-        ensures { result ≡ place_in (said_of self) }
+        ensures { result ≡ place_in (refusal_said self) }
     {
         match self {
-            Finding::Sound => 0,
             Finding::Short(place) => place,
             Finding::Count(place) => place,
             Finding::Range(place) => place,
@@ -59,6 +56,7 @@ impl Finding {
 }
 
 // Where each task of a sound list starts, so that one pass over the words serves many reads.
+// Fixed memory: no heap, so the starts stand in an array with their number beside it.
 #[derive(Clone, Copy)]
 pub struct Map {
     pub tasks: u32,
@@ -66,14 +64,7 @@ pub struct Map {
     pub starts: [usize; TASKS],
 }
 
-// What one pass over the words learns.
-#[derive(Clone, Copy)]
-pub struct Survey {
-    pub finding: Finding,
-    pub map: Map,
-}
-
-// One step of a plan, or that the plan has no such step.
+// One step of a plan. The finish, "which isn't written down", is a step that a job takes like the others, so it is a kind and no `None`.
 #[derive(Clone, Copy)]
 pub enum Next {
     Lock(u32, u32),

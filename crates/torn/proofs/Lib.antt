@@ -1,4 +1,4 @@
--- The laws of TORN: `Untorn` (what a state that isn't torn gives), `Grounds` (the grounds put together, as the code finds them).
+-- The laws of TORN: `Untorn` (what a state that isn't torn gives), `Grounds` (the grounds put together, as the code finds them), `Asked` (a test asked of each item).
+pub mod Asked
 pub mod Untorn
-pub mod Numbers
 pub mod Grounds

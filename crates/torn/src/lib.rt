@@ -1,123 +1,98 @@
-// TORN (document 01, "When an event is turned away"): "the state's own ranges fail". The test walks the table once, and hands on what the walk learns.
+// TORN (document 01, "When an event is turned away"): "the state's own ranges fail". The test walks a table that passes the check once, and hands on what the walk learns.
 #![tactic(auto)]
 
 mod released; // released.rt: the release numbers
 mod stored; // stored.rt: the stored times
 
-ghost use Rattle.std.specs.Prelude.{◌≡◌, false, ◌&&◌, ◌≤◌, ◌<◌, ◌^◌, ltb, leb};
-ghost use Rattle.sets.specs.Member.{width, has as isMember};
-ghost use Rattle.numbers.specs.Any.{any_below};
-ghost use Rattle.table.specs.Limits.{most_tasks};
-ghost use Rattle.table.specs.Map.{table_at};
-ghost use Rattle.machine.specs.Order.{row_of};
-ghost use Rattle.torn.specs.Torn.{torn_place, torn_by};
-ghost use Rattle.torn.specs.Examined.{examined_of};
+ghost use Rattle.std.specs.Prelude.{◌≡◌, false, ◌<◌, ◌^◌, ltb};
+ghost use Rattle.table.specs.Limits.{room, most_tasks};
+ghost use Rattle.readers.specs.Read.{table_in};
+ghost use Rattle.torn.specs.Torn.{torn_clock, torn_ready, torn_place, torn_last, torn_count, torn_by};
+ghost use Rattle.torn.specs.Examined.{tested, examined_of};
 
 use machine::Kept;
+use readers::Table;
+use table::Map;
 use table::limits::{END_OF_TIME, MOST_RELEASES, ROOM};
-use table::{Finding, Map};
 
-// What the test learns: whether the state is torn, and where its tasks start.
-#[derive(Clone, Copy)]
-pub struct Tested {
-    pub torn: bool,
-    pub map: Map,
+// "its clock is 2^40 or more"
+#[tactic(auto, unfolding(crate::specs::Torn::torn_clock))]
+fn clock_past_end(kept: &Kept) -> bool
+    ensures { result ≡ torn_clock kept.now }
+{
+    END_OF_TIME <= kept.clock
 }
 
-// "a job counts as ready whose task is not below n": the ready jobs are visited, lowest first.
-fn ready_past_tasks(ready: u32, tasks: u32) -> bool
-    ensures { (result ≡ any_below width (λ i. isMember ready i && leb tasks i)) × (result ≡ false → ready < 2 ^ tasks) }
+// "a job counts as ready whose task is not below n"
+fn ready_past_tasks(table: &Table<'_>, kept: &Kept) -> bool
+    ensures { (result ≡ torn_ready (table_in table.now) kept.now) × (result ≡ false → kept.now.ready < 2 ^ most_tasks) }
 {
-    let mut rest = ready;
-    while rest != 0 {
-        let i = u32::trailing_zeros(rest);
-        if tasks <= i {
-            return true;
-        }
-        rest = sets::without(rest, i);
-    }
-    false
+    let tasks = table.tasks();
+    sets::members(kept.ready).any(|i| tasks <= i)
 }
 
 // "a ready job's place is past its plan's end"
-fn place_past_end(words: &[u32], map: Map, kept: Kept) -> bool
-    requires { kept.ready < 2 ^ most_tasks }
-    ensures { result ≡ torn_place (table_at words.now map) kept }
+fn place_past_end(table: &Table<'_>, kept: &Kept) -> bool
+    requires { kept.now.ready < 2 ^ most_tasks }
+    ensures { result ≡ torn_place (table_in table.now) kept.now }
 {
-    let mut rest = kept.ready;
-    while rest != 0 {
-        let i = u32::trailing_zeros(rest);
-        let row = kept.rows[i as usize];
-        if readers::steps(words, map, i) < row.place {
-            return true;
-        }
-        rest = sets::without(rest, i);
-    }
-    false
+    sets::members(kept.ready).any(|i| table.steps(i) < kept.rows[i as usize].place)
 }
 
 // "a task's last release is after the clock": "judged for tasks below n that have had a release".
-fn last_release_after_clock(kept: Kept, tasks: u32) -> bool
-    requires { tasks ≤ most_tasks }
-    ensures { result ≡ any_below tasks (λ i. isMember kept.had i && ltb kept.clock (row_of kept i).last) }
+fn last_release_after_clock(table: &Table<'_>, kept: &Kept) -> bool
+    ensures { result ≡ torn_last (table_in table.now) kept.now }
 {
-    let mut i: u32 = 0;
-    while i < tasks {
-        let row = kept.rows[i as usize];
-        if sets::has(kept.had, i) && kept.clock < row.last {
-            return true;
-        }
-        i += 1;
-    }
-    false
+    let tasks = table.tasks();
+    sets::members(kept.had).any(|i| i < tasks && kept.clock < kept.rows[i as usize].last)
 }
 
-// The grounds behind the table's own, in document 01's order.
-#[tactic(auto, using(crate::proofs::Grounds::clock_tears, crate::proofs::Grounds::count_tears))]
-fn torn_by(words: &[u32], map: Map, kept: Kept) -> bool
-    ensures { result ≡ torn_by (table_at words.now map) kept }
+// "its count of accepted releases is above 2^44"
+#[tactic(auto, unfolding(crate::specs::Torn::torn_count))]
+fn too_many_releases(kept: &Kept) -> bool
+    ensures { result ≡ torn_count kept.now }
 {
-    if END_OF_TIME <= kept.clock {
-        return true;
-    }
-    let tasks = readers::tasks(map);
-    if ready_past_tasks(kept.ready, tasks) {
-        return true;
-    }
-    if place_past_end(words, map, kept) {
-        return true;
-    }
-    if stored::stored_too_late(kept) {
-        return true;
-    }
-    if last_release_after_clock(kept, tasks) {
-        return true;
-    }
-    if MOST_RELEASES < kept.count {
-        return true;
-    }
-    released::some_number_wrong(kept)
+    MOST_RELEASES < kept.count
 }
 
-// The whole test, of a state's words, of how many of them are in use and of what is kept. No more words are in use than there are, and no table has more than
-// its room.
-#[tactic(auto, using(crate::proofs::Grounds::long_examined))]
-pub fn examine(words: &[u32], used: usize, kept: Kept) -> Tested
-    ensures { result ≡ examined_of words.now used kept }
+// The grounds behind the table's own, in document 01's order. Of a table and what is kept: two parameters, since a type of the two would be made for this one call.
+#[tactic(auto, unfolding(crate::specs::Torn::torn_by))]
+fn torn_by(table: &Table<'_>, kept: &Kept) -> bool
+    ensures { result ≡ torn_by (table_in table.now) kept.now }
 {
-    let end = numbers::lesser_usize(used, words.len());
-    let list = &words[..end];
-    let survey = table::check::survey(list);
-    let map = survey.map;
-    if ROOM < used {
-        return Tested { torn: true, map };
-    }
-    let finding = survey.finding;
-    let Finding::Sound = finding else {
-        return Tested { torn: true, map };
-    };
-    Tested {
-        torn: torn_by(list, map, kept),
-        map,
+    clock_past_end(kept)
+        || ready_past_tasks(table, kept)
+        || place_past_end(table, kept)
+        || stored::stored_too_late(kept)
+        || last_release_after_clock(table, kept)
+        || too_many_releases(kept)
+        || released::some_number_wrong(kept)
+}
+
+// More words in use than a table's room has: no list of that length passes the check.
+fn too_long(used: usize) -> bool
+    ensures { result ≡ ltb room used }
+{
+    ROOM < used
+}
+
+// A torn state, and the map of its words all the same.
+#[derive(Clone, Copy)]
+pub struct Torn {
+    pub map: Map,
+}
+
+// The whole test, of a state's words, of how many of them are in use and of what is kept. Any number may stand in `used` and has its answer, so no slice is lent; no
+// more words are in use than there are. A state that isn't torn has its table's map.
+pub fn examine(words: &[u32], used: usize, kept: Kept) -> Result<Map, Torn>
+    ensures { tested result ≡ examined_of words.now used kept }
+{
+    let words = &words[..used.min(words.len())];
+    match table::check::survey(words) {
+        Ok(map) if too_long(used) || torn_by(&Table { words, map }, &kept) => Err(Torn { map }),
+        Ok(map) => Ok(map),
+        Err(_) => Err(Torn {
+            map: table::check::map_of(words),
+        }),
     }
 }

@@ -16,7 +16,7 @@ use Rattle.table.specs.Held.{Section}
 use Rattle.table.specs.Floor.{step_locks, locks, floor_of}
 use Rattle.table.specs.Valid.{Nested, ends, ValidTask}
 use Rattle.table.specs.Valid as valid
-use Rattle.numbers.proofs.Tests.{or_left, or_right}
+use Rattle.std.proofs.lemmas.Bool.{or_left, or_right}
 use Rattle.verdict.specs.Blocking.{blocking_step, blocking_plan, blocking_tasks, blocking}
 use Rattle.verdict.specs.Verdict.{largest}
 use Rattle.numbers.specs.Each.{Each}

@@ -4,8 +4,10 @@
 use Prim.Native.Nat.{ℕ, ◌<◌}
 use mathlib.Core.Path.{◌≡◌, sym, subst}
 use mathlib.Core.List.{List}
+use Rattle.std.specs.Prelude.{Result}
 use Rattle.table.specs.Table.{Table}
 use Rattle.table.specs.Check.{sound, check_of}
+use Rattle.table.specs.declared.Finding.{Finding}
 use Rattle.numbers.proofs.Tests.{never}
 use Rattle.verdict.specs.Verdict.{says, Breaks, verdict_of, Judged, is_refused, is_long, is_heavy, is_late, is_fits}
 use Rattle.numbers.specs.Answers.{FITS, LATE}
@@ -16,7 +18,7 @@ use Rattle.verdict.proofs.Judged.{verdict_judged}
 
 -- ---- an answer that keeps the promise is judged right
 
-pub promise_judged : (ws : List ℕ) (answer : Verdict) → verdict_said answer ≡ verdict_of ws → Judged ws (verdict_said answer)
+pub promise_judged : (ws : List ℕ) (answer : Result Verdict Finding) → verdict_said answer ≡ verdict_of ws → Judged ws (verdict_said answer)
 promise_judged ws answer e = subst (Judged ws) (sym e) (verdict_judged ws)
 
 -- ---- what FITS and LATE say of the table itself

@@ -4,5 +4,6 @@ pub mod Blocking
 pub mod Multiple
 pub mod Floors
 pub mod Times
+pub mod Searched
 pub mod Verdict
 pub mod Said

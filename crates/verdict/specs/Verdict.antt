@@ -1,7 +1,7 @@
 -- The verdict (document 01, "The verdict"): what is answered, and what each answer means. `verdict_of` computes and looks no further than P plus the largest D;
 -- `Judged` says what an answer means, for every t without end. The theorems: `verdict_of` is judged so (`verdict_judged`), and two answers judged so are equal (`judged_unique`). Assumes nothing.
 use Rattle.numbers.specs.Answers.{FITS, LATE, HEAVY, LONG}
-use Rattle.std.specs.Prelude.{ℕ, zero, suc, ◌+◌, ◌*◌, ◌/◌, ◌≤◌, ◌<◌, max, ◌≡◌, Bool, true, false, List, [], ◌∷◌, ltb}
+use Rattle.std.specs.Prelude.{ℕ, zero, suc, ◌+◌, ◌*◌, ◌/◌, ◌≤◌, ◌<◌, max, ◌≡◌, Bool, true, false, List, [], ◌∷◌, Option, Some, None, ltb}
 use Rattle.table.specs.Limits.{most_multiple}
 use Rattle.table.specs.Table.{Task, Table}
 use Rattle.table.specs.Check.{Checked, sound, refused, check_of}
@@ -44,6 +44,11 @@ largest (task ∷ tasks) = max task.D (largest tasks)
 unfoldable pub first_late : ℕ → ℕ → Table → VerdictReply
 first_late zero t table = says FITS 0
 first_late (suc left) t table = elim (breaks table t) [ true ↦ says LATE t | false ↦ first_late left (suc t) table ]
+
+-- .. as it is found: the t, or none.
+abbrev pub late_said : Option ℕ → VerdictReply
+late_said (Some t) = says LATE t
+late_said None = says FITS 0
 
 -- "in this order: 23 LONG if P is above 1,000,000; 22 HEAVY if the sum of C * P / T is above P; 21 LATE with the least t where h(t) + b(t) > t; else 20 FITS"
 unfoldable pub judge : Table → VerdictReply

@@ -6,18 +6,17 @@ ghost use Rattle.verdict.specs.Verdict.{number_in, value_in};
 ghost use Rattle.verdict.specs.Said.{verdict_said};
 
 use numbers::answers::{FITS, HEAVY, LATE, LONG};
-use table::Finding;
 
-mod blocked;
 pub mod euclid;
 pub mod judge;
+mod search;
+mod sound;
 mod times;
 mod work;
 
-// What is said of a table: refused as the check refuses it, or one of document 01's four answers.
-#[derive(Clone, Copy)]
+// What is said of a table that passes the check: one of document 01's four answers.
+#[derive(Clone, Copy, Debug, PartialEq, Eq)]
 pub enum Verdict {
-    Refused(Finding),
     Fits,
     Late(u64),
     Heavy,
@@ -25,12 +24,11 @@ pub enum Verdict {
 }
 
 impl Verdict {
-    // Document 01's number: a refusal's, or 20 to 23.
+    // Document 01's number, 20 to 23.
     pub fn number(self) -> u32
-        ensures { result ≡ number_in (verdict_said self) }
+        ensures { result ≡ number_in (verdict_said (Ok self)) }
     {
         match self {
-            Verdict::Refused(finding) => finding.number(),
             Verdict::Fits => FITS,
             Verdict::Late(_) => LATE,
             Verdict::Heavy => HEAVY,
@@ -38,16 +36,13 @@ impl Verdict {
         }
     }
 
-    // What goes with the number: a refusal's place, LATE's t, or 0.
+    // What goes with the number: LATE's t, or 0. 0 and not None: `value_in` holds it.
     pub fn value(self) -> u64
-        ensures { result ≡ value_in (verdict_said self) }
+        ensures { result ≡ value_in (verdict_said (Ok self)) }
     {
         match self {
-            Verdict::Refused(finding) => finding.place() as u64,
-            Verdict::Fits => 0,
             Verdict::Late(t) => t,
-            Verdict::Heavy => 0,
-            Verdict::Long => 0,
+            Verdict::Fits | Verdict::Heavy | Verdict::Long => 0,
         }
     }
 }

@@ -1,70 +1,35 @@
-// The work that a table asks for: HEAVY's sum, the demand h(t), and the largest D (document 01, "The verdict"), all from its times: a table of n tasks
-// whose T, D and C stand in the arrays. Which table it is they don't ask, and what they answer holds of every one.
-ghost use Rattle.std.specs.Prelude.{◌+◌, ◌≤◌, ◌≡◌};
-ghost use Rattle.table.specs.Limits.{most_ticks, most_multiple};
-ghost use Rattle.verdict.specs.Demand.{demand_of, demand as demandAt};
+// The work that a table asks for: HEAVY's sum, the demand h(t), and the largest D (document 01, "The verdict"), all from the tasks' times.
+ghost use Rattle.std.specs.Prelude.{◌+◌, ◌≤◌, ◌≡◌, length, map};
+ghost use Rattle.table.specs.Limits.{most_tasks, most_ticks, most_multiple};
+ghost use Rattle.verdict.specs.Demand.{demand_sum};
 ghost use Rattle.verdict.specs.Verdict.{load_of, largest as largestOf};
-ghost use Rattle.verdict.specs.Times.{ArePeriods, AreDeadlines, AreCosts, AreTimes, SomeTable, EveryTable, timed};
+ghost use Rattle.verdict.specs.Times.{timed};
 
-use numbers::greater_u64;
-use table::limits::TASKS;
+use crate::times::Times;
 
 // "the sum of C * P / T"
-pub(crate) fn load(n: u32, periods: &[u64; TASKS], costs: &[u64; TASKS], p: u64) -> u64
-    requires { SomeTable n (λ table. ArePeriods table periods.now × AreCosts table costs.now) × (p ≤ most_multiple) }
-    ensures { EveryTable n (λ table. ArePeriods table periods.now × AreCosts table costs.now) (λ table. result ≡ load_of p table.tasks) }
+#[tactic(auto, using(crate::proofs::Sums::load_of_times))]
+pub(crate) fn load(times: &[Times], p: u64) -> u64
+    requires few { length times.now ≤ most_tasks }
+    requires near { p ≤ most_multiple }
+    ensures { result ≡ load_of p (map timed times.now) }
 {
-    let mut sum: u64 = 0;
-    for i in 0..n {
-        let cost = costs[i as usize];
-        let period = periods[i as usize];
-        sum += cost * p / period;
-    }
-    sum
-}
-
-// One task's part of h(t): "over tasks with D at most t, of C times (1 + (t - D) / T, rounded down)".
-fn demand_of(period: u64, deadline: u64, cost: u64, t: u64) -> u64
-    requires { (1 ≤ period) × (cost ≤ most_ticks) × (t ≤ most_multiple + most_ticks) }
-    ensures { result ≡ demand_of (timed period deadline cost) t }
-{
-    if deadline <= t {
-        return cost * (1 + (t - deadline) / period);
-    }
-    0
+    times.iter().map(|task| task.load(p)).sum()
 }
 
 // h(t)
-pub(crate) fn demand(
-    n: u32,
-    periods: &[u64; TASKS],
-    deadlines: &[u64; TASKS],
-    costs: &[u64; TASKS],
-    t: u64,
-) -> u64
-    requires { SomeTable n (λ table. AreTimes table periods.now deadlines.now costs.now) × (t ≤ most_multiple + most_ticks) }
-    ensures { EveryTable n (λ table. AreTimes table periods.now deadlines.now costs.now) (λ table. result ≡ demandAt table t) }
+#[tactic(auto, using(crate::proofs::Sums::demand_of_times))]
+pub(crate) fn demand(times: &[Times], t: u64) -> u64
+    requires few { length times.now ≤ most_tasks }
+    requires near { t ≤ most_multiple + most_ticks }
+    ensures { result ≡ demand_sum (map timed times.now) t }
 {
-    let mut sum: u64 = 0;
-    for i in 0..n {
-        sum += demand_of(
-            periods[i as usize],
-            deadlines[i as usize],
-            costs[i as usize],
-            t,
-        );
-    }
-    sum
+    times.iter().map(|task| task.demand(t)).sum()
 }
 
 // The largest D.
-pub(crate) fn largest(n: u32, deadlines: &[u64; TASKS]) -> u64
-    requires { SomeTable n (λ table. AreDeadlines table deadlines.now) }
-    ensures { EveryTable n (λ table. AreDeadlines table deadlines.now) (λ table. result ≡ largestOf table.tasks) }
+pub(crate) fn largest(times: &[Times]) -> u64
+    ensures { result ≡ largestOf (map timed times.now) }
 {
-    let mut most: u64 = 0;
-    for i in 0..n {
-        most = greater_u64(most, deadlines[i as usize]);
-    }
-    most
+    times.iter().map(|task| task.deadline).max().unwrap_or(0)
 }

@@ -1,39 +1,20 @@
-use Prim.Native.Nat.{ℕ, zero, ◌-◌, ◌+◌}
-use mathlib.Core.Path.{◌≡◌, refl, sym, ap, subst, ◌∙◌}
-use mathlib.Core.Bool.{Bool}
+-- `machine::who_runs` meets its contract: the filter gives the ready ones of the sixteen tasks, and the key of each is its row's. Assumes nothing.
+use Rattle.std.proofs.Common.{rules, tests}
+use mathlib.Core.Path.{◌∙◌}
 use native.Mathlib.Omega.{arith}
+use Rattle.std.proofs.lemmas.Iterator.{YieldsList-from_range}
+use Rattle.std.proofs.lemmas.Iterator.Consumers.{YieldsList-from_filter, reduce_from_yields_List}
 use Rattle.sets.specs.Member.{has}
 use Rattle.table.specs.Limits.{most_tasks}
-use Rattle.machine.specs.Order.{best_from, who_runs}
-use Rattle.machine.specs.Leader.{better_of}
-use Rattle.machine.specs.declared.Leader.{Leader}
-use Rattle.machine.specs.declared.Kept.{Kept}
-use Rattle.machine.specs.declared.Who.{Who}
-use Rattle.machine.proofs.Choose.{Chosen, chosen, row_leader, best_none, best_next}
+use Rattle.machine.proofs.Choose.{earlier_of, picked, ready_best}
 use Rattle.machine.proofs.who_runs.Goals as goal
-
-pub loop-i-init : goal.loop-i-init
-unfolding who_runs
-loop-i-init c = (omega arith, refl, tt)
-
-pub loop-i-preserved : goal.loop-i-preserved
-loop-i-preserved c =
-    let l = c.loop-i in
-    let kept : Kept = c.args.kept in
-    let told : c.better-best.result ≡ better_of l.best (has kept.ready l.i) (row_leader kept l.i) =
-    c.better-best.ensures ∙ ap (λ (r : Bool). better_of l.best r (row_leader kept l.i)) c.has.ensures
-    in
-    let k : Chosen kept l.i l.best c.better-best.result =
-    subst (λ (a : Leader). Chosen kept l.i l.best a) (sym told) (chosen kept l.i l.best l.invariant.2)
-    in (
-      omega arith,
-      ap (λ (w : Who). best_from (most_tasks - (l.i + 1)) (l.i + 1) kept w) k.who ∙ sym (best_next most_tasks l.i kept l.best.who (omega arith)) ∙ l.invariant.1,
-      k.leads,
-    )
 
 pub returns : goal.returns
 returns c =
-    let l = c.loop-i in
-    let kept : Kept = c.args.kept in
-    let none : most_tasks - l.i ≡ zero = omega arith in
-    sym (best_none l.i kept l.best.who) ∙ ap (λ (n : ℕ). best_from n l.i kept l.best.who) (sym none) ∙ l.invariant.1
+    let kept = c.args.kept in
+    let least = c.min_by_key.ensures in
+    reduce_from_yields_List (earlier_of kept) c.filter.result c.min_by_key.result
+    (picked kept _ _ c.filter.result c.min_by_key.result least.runs.0 least.ran (λ i k q h. search (rules, tests)))
+    (YieldsList-from_filter _ (has kept.ready) (YieldsList-from_range 0 most_tasks most_tasks c.filter.ensures.source (omega arith)) c.filter.ensures.closure
+    (λ x b q k. search (rules, tests)))
+    ∙ ready_best kept

@@ -1,30 +1,16 @@
 -- `board::events::release` meets its contract: what `dispatch` promises of the parts that were read, through the image (`event_left`).
 -- Assumes nothing.
-use mathlib.Core.Path.{◌≡◌, subst}
-use Rattle.dispatch.specs.Heard.{outcome_of}
-use Rattle.dispatch.specs.Dispatch.{release_of, after}
+use Rattle.std.proofs.Common.{rules}
+use Rattle.dispatch.specs.Dispatch.{release_of}
 use Rattle.dispatch.specs.declared.State.{State}
-use Rattle.board.specs.Image.{decode, TypedState}
+use Rattle.board.specs.Image.{decode}
 use Rattle.board.specs.Calls.{release_image, release_answer}
-use Rattle.board.proofs.Typed.{words_half_of, outcome_typed}
-use Rattle.board.proofs.Heard.{release_kept, decoded_parts, event_left}
+use Rattle.board.proofs.Heard.{release_kept, event_left}
 use Rattle.board.proofs.events.release.Goals as goal
 
 pub returns : goal.returns
 unfolding release_image release_answer
-returns c = let image = c.args.image.now in
-    let task = c.args.task in
-    let time = c.args.time in
-    let words = c.words_of-words in
-    let kept = c.kept_of-before in
-    let heard = c.release-heard in
-    let parts = decoded_parts image words.result kept.result words.ensures kept.ensures in
-    let same = subst (λ (s : State). after s (outcome_of heard.result) ≡ release_of s task time) parts heard.ensures in
-    let whole = subst (λ (s : State). TypedState (after s (outcome_of heard.result)).state) parts (outcome_typed words.result _ heard.result _ words.type_inv.1.0.1 (words_half_of words.result words.type_inv.0 words.type_inv.1.1) heard.type_inv) in
-    let left = event_left image _ _ heard.result (release_of (decode image) task time) c.requires same (release_kept (decode image) task time) whole
-    c.keep.ensures c.of_reply.ensures in
-    record {
-      image_is = left.0;
-      answer_is = left.1;
-      state_is = left.2;
-    }
+returns c =
+    let image = c.args.image.now in
+    let left = event_left image _ _ (λ (s : State). release_of s c.args.task c.args.time) c.told-image c.hear.ensures (search rules) (release_kept (decode image) c.args.task c.args.time) in
+    record { image_is = left.0; answer_is = left.1; state_is = left.2 }

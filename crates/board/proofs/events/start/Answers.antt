@@ -16,6 +16,6 @@ returns c =
     let put = c.put_state.ensures in
     record {
       image_is = put ∙ ap (λ (b : Begun). encode b.state) begun.ensures;
-      answer_is = c.of_finding.ensures ∙ ap (λ (b : Begun). check_answer b.said) begun.ensures;
+      answer_is = c.from.ensures ∙ ap (λ (b : Begun). check_answer b.said) begun.ensures;
       state_is = ap decode put ∙ decode_encode begun.result.state (started_typed begun.result _ begun.type_inv) ∙ ap (λ (b : Begun). b.state) begun.ensures;
     }

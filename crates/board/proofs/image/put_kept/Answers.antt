@@ -4,4 +4,4 @@ use Rattle.board.proofs.Parts.{kept_put}
 use Rattle.board.proofs.image.put_kept.Goals as goal
 
 pub returns : goal.returns
-returns c = kept_put c.args.image.now _ c.args.kept c.requires c.put_rows.ensures
+returns c = kept_put c.args.image.now _ c.args.kept.now c.told-image (rw (← c.from.ensures, ← c.from-2.ensures) c.put_rows.ensures)

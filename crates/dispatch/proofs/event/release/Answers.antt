@@ -1,52 +1,20 @@
 -- `dispatch::event::release` meets its contract: TORN goes first, the table that the map reads is the state's, and the words stay. Assumes nothing.
-use borrow.Author.Rules.{rules}
-use Rattle.dispatch.proofs.Grounds.{event_torn, event_whole, Sound, sound_state}
-use Rattle.dispatch.specs.State.{state_of}
-use Rattle.dispatch.specs.Torn.{torn}
-use Rattle.dispatch.specs.Dispatch.{after, release_of}
+use Rattle.std.proofs.lemmas.Result.{err_from_is_err_and}
 use Rattle.machine.specs.Event.{release}
-use Rattle.machine.specs.Away.{event_in}
-use Rattle.table.specs.Table.{Table}
-use Rattle.torn.specs.declared.Tested.{Tested}
-use Prim.Native.Nat.{◌≤◌}
-use lib.ListN.{length}
-use native.Mathlib.Omega.{arith}
-use lib.Seq.{length-take-le}
-use mathlib.Core.Path.{◌≡◌, sym, ap, ◌∙◌}
+use Rattle.dispatch.specs.State.{state_of}
+use Rattle.dispatch.specs.Dispatch.{release_of}
+use Rattle.dispatch.proofs.Grounds.{refused_torn, event_said}
 use Rattle.dispatch.proofs.event.release.Goals as goal
 
--- In the answers: `told` is what the test of TORN says, and `whole` what it hands on where the state isn't torn.
-pub returns-then-tested : goal.returns-then-tested
-unfolding release_of torn
-returns-then-tested c =
-    let state = state_of c.args.words.now c.args.used c.args.kept in
-    let told : torn state ≡ c.examine-tested.result.torn = sym (ap (λ (t : Tested). t.torn) c.examine-tested.ensures) in
-    ap (after state) c.away.ensures ∙ event_torn state (release c.args.task c.args.time) (told ∙ c.if-tested.true)
-
-pub slice_bounds-list-end : goal.slice_bounds-list-end
-unfolding torn
-slice_bounds-list-end c =
-    let state = state_of c.args.words.now c.args.used c.args.kept in
-    let told : torn state ≡ c.examine-tested.result.torn = sym (ap (λ (t : Tested). t.torn) c.examine-tested.ensures) in
-    let whole : Sound state c.examine-tested.result.map = sound_state state _ (ap (λ (t : Tested). t.map) c.examine-tested.ensures) (search rules) (told ∙ c.if-tested.false) in
-    let used = whole.used in
-    let fits : c.args.used ≤ length c.args.words.now = omega arith in
-    sym (length-take-le c.args.used c.args.words.now fits)
-
-pub release-requires : goal.release-requires
-unfolding torn
-release-requires c =
-    let state = state_of c.args.words.now c.args.used c.args.kept in
-    let told : torn state ≡ c.examine-tested.result.torn = sym (ap (λ (t : Tested). t.torn) c.examine-tested.ensures) in
-    let whole : Sound state c.examine-tested.result.map = sound_state state _ (ap (λ (t : Tested). t.map) c.examine-tested.ensures) (search rules) (told ∙ c.if-tested.false) in
-    whole.whole
+pub returns-in_err-of : goal.returns-in_err-of
+unfolding release_of
+returns-in_err-of c =
+    let a = c.args in
+    let p = err_from_is_err_and c.from_residual.result c.from_residual.ensures.1 in
+    rw (p.1, p.2) (refused_torn (state_of a.words.now a.used a.kept) (release c.args.task c.args.time) _ c.in_err-of.ensures.torn)
 
 pub returns : goal.returns
-unfolding release_of torn
+unfolding release_of
 returns c =
-    let state = state_of c.args.words.now c.args.used c.args.kept in
-    let told : torn state ≡ c.examine-tested.result.torn = sym (ap (λ (t : Tested). t.torn) c.examine-tested.ensures) in
-    let whole : Sound state c.examine-tested.result.map = sound_state state _ (ap (λ (t : Tested). t.map) c.examine-tested.ensures) (search rules) (told ∙ c.if-tested.false) in
-    ap (after state)
-    (c.release.ensures ∙ ap (λ (t : Table). event_in t c.args.kept (release c.args.task c.args.time)) whole.table)
-    ∙ event_whole state (release c.args.task c.args.time) (told ∙ c.if-tested.false)
+    let a = c.args in
+    event_said (state_of a.words.now a.used a.kept) (release c.args.task c.args.time) _ _ _ c.in_ok-of.ensures.whole c.release.ensures

@@ -1,24 +1,17 @@
-use mathlib.Core.Path.{sym, ◌∙◌}
-use native.Mathlib.Omega.{arith}
+-- `torn::stored::saved_too_late` meets its contract: each of the four slots is asked. Assumes nothing.
+use Rattle.std.proofs.Common.{rules, ◌≡◌, ℕ, get_or, length, ap, ◌∙◌}
+use borrow.Author.Tests.{tests}
+use Rattle.std.proofs.lemmas.Iterator.{YieldsList-from_slice}
+use Rattle.std.proofs.lemmas.Iterator.Search.{any_from_yields_List}
+use Rattle.numbers.specs.Any.{any_below}
 use Rattle.table.specs.Limits.{most_held}
-use Rattle.numbers.proofs.Any.{any_none, any_more, any_hit, any_end}
-use Rattle.torn.proofs.stored.saved_too_late.Invariants.{test}
+use Rattle.torn.specs.Torn.{too_late}
+use Rattle.torn.proofs.Asked.{any_items}
 use Rattle.torn.proofs.stored.saved_too_late.Goals as goal
-
-pub loop-k-init : goal.loop-k-init
-loop-k-init c = (omega arith, any_none (test c.args.saved))
-
-pub returns-then-time_too_late : goal.returns-then-time_too_late
-returns-then-time_too_late c =
-    let l = c.loop-k in
-    sym (any_hit most_held l.k (test c.args.saved) (omega arith) (sym c.time_too_late.ensures ∙ c.if-time_too_late.true))
-
-pub loop-k-preserved : goal.loop-k-preserved
-loop-k-preserved c =
-    let l = c.loop-k in
-    (omega arith, any_more l.k (test c.args.saved) l.invariant.1 (sym c.time_too_late.ensures ∙ c.if-time_too_late.false))
 
 pub returns : goal.returns
 returns c =
-    let l = c.loop-k in
-    sym (any_end most_held l.k (test c.args.saved) (omega arith) (omega arith) l.invariant.1)
+    let saved = c.args.saved.now in
+    let four : length saved ≡ most_held = search rules in
+    any_from_yields_List too_late _ _ _ c.any.ensures.ran (YieldsList-from_slice saved cc) (λ time b q k. search (rules, tests))
+    ∙ any_items saved 0 too_late ∙ ap (λ (n : ℕ). any_below n (λ k. too_late (get_or saved k 0))) four

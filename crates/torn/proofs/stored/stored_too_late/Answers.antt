@@ -1,27 +1,19 @@
-use mathlib.Core.Path.{sym, ◌∙◌}
-use native.Mathlib.Omega.{arith}
+-- `torn::stored::stored_too_late` meets its contract: each of the sixteen rows is asked. Assumes nothing.
+use Rattle.std.proofs.Common.{rules, ◌≡◌, ℕ, length, ap, ◌∙◌}
+use borrow.Author.Tests.{tests}
+use Rattle.std.proofs.lemmas.Iterator.{YieldsList-from_slice}
+use Rattle.std.proofs.lemmas.Iterator.Search.{any_from_yields_List}
+use Rattle.numbers.specs.Any.{any_below}
 use Rattle.table.specs.Limits.{most_tasks}
-use Rattle.torn.specs.Torn.{torn_times}
-use Rattle.numbers.proofs.Any.{any_none, any_more, any_hit, any_end}
-use Rattle.torn.proofs.stored.stored_too_late.Invariants.{test}
+use Rattle.machine.specs.Order.{no_job, row_of}
+use Rattle.torn.specs.Torn.{row_too_late, torn_times}
+use Rattle.torn.proofs.Asked.{any_items}
 use Rattle.torn.proofs.stored.stored_too_late.Goals as goal
-
-pub loop-i-init : goal.loop-i-init
-loop-i-init c = (omega arith, any_none (test c.args.kept))
-
-pub returns-then-row_too_late : goal.returns-then-row_too_late
-unfolding torn_times
-returns-then-row_too_late c =
-    let l = c.loop-i in
-    sym (any_hit most_tasks l.i (test c.args.kept) (omega arith) (sym c.row_too_late.ensures ∙ c.if-row_too_late.true))
-
-pub loop-i-preserved : goal.loop-i-preserved
-loop-i-preserved c =
-    let l = c.loop-i in
-    (omega arith, any_more l.i (test c.args.kept) l.invariant.1 (sym c.row_too_late.ensures ∙ c.if-row_too_late.false))
 
 pub returns : goal.returns
 unfolding torn_times
 returns c =
-    let l = c.loop-i in
-    sym (any_end most_tasks l.i (test c.args.kept) (omega arith) (omega arith) l.invariant.1)
+    let kept = c.args.kept.now in
+    let sixteen : length kept.rows ≡ most_tasks = search rules in
+    any_from_yields_List row_too_late _ _ _ c.any.ensures.ran (YieldsList-from_slice kept.rows cc) (λ row b q k. search (rules, tests))
+    ∙ any_items kept.rows no_job row_too_late ∙ ap (λ (n : ℕ). any_below n (λ i. row_too_late (row_of kept i))) sixteen

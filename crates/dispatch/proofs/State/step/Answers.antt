@@ -1,6 +1,0 @@
--- `dispatch::State::step` meets its contract: the words stay, and what is kept and said is the event's. Assumes nothing.
-use mathlib.Core.Path.{◌∙◌}
-use Rattle.dispatch.proofs.State.step.Goals as goal
-
-pub returns : goal.returns
-returns c = c.answered.ensures ∙ c.step-outcome.ensures

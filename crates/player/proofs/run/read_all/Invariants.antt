@@ -1,5 +1,0 @@
--- `player::run::read_all` is safe and ends: the measure is how many turns are left. Assumes nothing.
-use Rattle.player.proofs.run.read_all.Given as goal
-
-abbrev pub decreases-loop-turns : goal.decreases-loop-turns
-decreases-loop-turns g l = l.turns

@@ -1,0 +1,2 @@
+-- What a reader reads.
+pub mod Read
