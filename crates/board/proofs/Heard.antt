@@ -37,7 +37,7 @@ same_if (went_on turn) x y h = tt
 same_if (finished late turn) x y h = tt
 
 -- The parts that are read from an image are those of the state that it is.
-decoded_parts : (image words : List ℕ) (kept : Kept) → words ≡ unpacked (take length_at image) → kept ≡ (decode image).kept →
+pub decoded_parts : (image words : List ℕ) (kept : Kept) → words ≡ unpacked (take length_at image) → kept ≡ (decode image).kept →
     state_of words (get_or image length_at 0) kept ≡ decode image
 unfolding decode
 decoded_parts image words kept e f = λ i. state_of (e i) (get_or image length_at 0) (f i)
@@ -74,7 +74,7 @@ over_old image heard whole kept =
     ∙ ap (λ n. packed heard.state.words ++ (n ∷ cells)) (sym kept.same_length)
 
 -- So the image that a call leaves is the one that is promised.
-left_in_image : (image l : List ℕ) (heard : Heard) → length image ≡ image_size → Stays (decode image) heard →
+pub left_in_image : (image l : List ℕ) (heard : Heard) → length image ≡ image_size → Stays (decode image) heard →
     l ≡ image_after image (take clock_at image ++ kept_cells heard.state.kept) heard.said → l ≡ image_heard image heard
 left_in_image image l heard whole kept e = e ∙ ap (λ m. image_after image m heard.said) (over_old image heard whole kept)
 

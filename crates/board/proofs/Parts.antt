@@ -15,7 +15,7 @@ use Rattle.board.specs.Image.{length_at, clock_at, count_at, ready_at, had_at, r
 use Rattle.board.proofs.Codec.{behind_drop}
 
 -- A list filled from the front: one store more, and two.
-fill_more : {A : Type 0} (d s : List A) (j : ℕ) (z : A) → j < length d → j < length s →
+pub fill_more : {A : Type 0} (d s : List A) (j : ℕ) (z : A) → j < length d → j < length s →
     set (take j s ++ drop j d) j (get_or s j z) ≡ take (suc j) s ++ drop (suc j) d
 fill_more d s j z hd hs =
     ap (λ l. set (take j s ++ l) j (get_or s j z)) (drop-cons d j z hd)
@@ -23,7 +23,7 @@ fill_more d s j z hd hs =
     ∙ sym (append_snoc (take j s) (get_or s j z) (drop (suc j) d))
     ∙ ap (λ l. l ++ drop (suc j) d) (sym (take-suc s j z hs))
 
-fill_two : (d s : List ℕ) (k x y : ℕ) → 2 * k + 1 < length d → 2 * k + 1 < length s → x ≡ get_or s (2 * k) 0 → y ≡ get_or s (2 * k + 1) 0 →
+pub fill_two : (d s : List ℕ) (k x y : ℕ) → 2 * k + 1 < length d → 2 * k + 1 < length s → x ≡ get_or s (2 * k) 0 → y ≡ get_or s (2 * k + 1) 0 →
     set (set (take (2 * k) s ++ drop (2 * k) d) (2 * k) x) (2 * k + 1) y ≡ take (2 * (k + 1)) s ++ drop (2 * (k + 1)) d
 fill_two d s k x y hd hs ex ey =
     let twice : 2 * (k + 1) ≡ suc (suc (2 * k)) = omega arith in

@@ -61,10 +61,10 @@ plan_nests table i valid = go (ltb i (tasks_of table)) refl
 fits : (table : Table) → Valid table → table.resources ≤ width
 fits table valid = let l = valid.resources_most in omega arith
 
-held_size : (table : Table) (kept : Kept) (i : ℕ) → Valid table → size_of (held_set (held_of table kept i)) ≡ length (held_of table kept i)
+pub held_size : (table : Table) (kept : Kept) (i : ℕ) → Valid table → size_of (held_set (held_of table kept i)) ≡ length (held_of table kept i)
 held_size table kept i valid = size_held (fits table valid) (plan_nests table i valid) (row_of kept i).place
 
-held_has : (table : Table) (kept : Kept) (i r : ℕ) → Valid table → has (held_set (held_of table kept i)) r ≡ holds (held_of table kept i) r
+pub held_has : (table : Table) (kept : Kept) (i r : ℕ) → Valid table → has (held_set (held_of table kept i)) r ≡ holds (held_of table kept i) r
 held_has table kept i r valid = has_held (fits table valid) (plan_nests table i valid) (row_of kept i).place r
 
 -- What a ready job's lock or unlock counts on.
@@ -83,7 +83,7 @@ and_turned true b d = refl
 and_turned false b d = refl
 
 -- "another ready job" is a member of the ready set without this one.
-another : (table : Table) (kept : Kept) (i r : ℕ) → i < width →
+pub another : (table : Table) (kept : Kept) (i r : ℕ) → i < width →
     any_member most_tasks (without_of width kept.ready i) (λ j. holds (held_of table kept j) r) ≡ held_by_another table kept i r
 unfolding held_by_another
 another table kept i r l =

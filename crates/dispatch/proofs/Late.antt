@@ -25,7 +25,7 @@ difference_fits a b ha hb = record { sfits = difference_mag a b ha hb }
 pub as_signed : (a b : ℕ) → a < 2 ^ 41 → b < 2 ^ 41 → to_z w64 a -ℤ to_z w64 b ≡ pos a -ℤ pos b
 as_signed a b ha hb = rw (to_z_pos w64 a (omega arith), to_z_pos w64 b (omega arith))
 
-signed_fits : (a b : ℕ) → a < 2 ^ 41 → b < 2 ^ 41 → SFits w64 (to_z w64 a -ℤ to_z w64 b)
+pub signed_fits : (a b : ℕ) → a < 2 ^ 41 → b < 2 ^ 41 → SFits w64 (to_z w64 a -ℤ to_z w64 b)
 signed_fits a b ha hb = subst (λ (z : ℤ). SFits w64 z) (sym (as_signed a b ha hb)) (difference_fits a b ha hb)
 
 pub signed_difference : (a b : ℕ) → a < 2 ^ 41 → b < 2 ^ 41 → to_z w64 (of_z w64 (to_z w64 a -ℤ to_z w64 b)) ≡ pos a -ℤ pos b

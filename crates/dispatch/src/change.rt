@@ -5,6 +5,7 @@ ghost use Rattle.machine.specs.Fields.{with_clock, with_row};
 ghost use Rattle.machine.specs.Machine.{fresh as fresh_of, new_job, no_job_since, lowered, restored, lateness};
 
 use machine::{Job, Kept};
+use numbers::lesser;
 use table::limits::{MOST_HELD, TASKS};
 
 // "A finish answers the lateness: time minus base deadline, signed." Both are below 2^41, so either is as a signed number what it was.
@@ -63,7 +64,7 @@ pub(crate) fn lower(job: &Job, depth: usize, deadline: u64) -> Job
     let mut saved = job.saved;
     saved[depth] = job.active;
     Job {
-        active: job.active.min(deadline),
+        active: lesser(job.active, deadline),
         place: job.place + 1,
         saved,
         ..*job

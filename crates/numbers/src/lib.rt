@@ -32,8 +32,8 @@ impl Number for usize {
     ghost below = { Prim.search rules };
 }
 
-// The lesser of two numbers.
-// docs/PROMISES.md promises it and `greater` by name (`lesser_pinned`, `greater_pinned`); the code takes std's min and max.
+// The lesser of two numbers. docs/PROMISES.md promises it and `greater` by name (`lesser_pinned`, `greater_pinned`), so the code holds two numbers
+// against each other by these, and takes std's min and max at the end of a chain alone.
 pub fn lesser<T: Number>(a: T, b: T) -> T
     ensures { T.value result ≡ min (T.value a) (T.value b) }
 {

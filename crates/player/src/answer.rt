@@ -5,6 +5,7 @@ ghost use Rattle.dispatch.specs.Dispatch.{start_of};
 ghost use Rattle.text.specs.Bytes.{bytes};
 ghost use Rattle.lines.specs.Lines.{line, reply_text};
 ghost use Rattle.script.specs.declared.Command.TheVariants as command;
+ghost use Rattle.text.specs.Room.{Written};
 ghost use Rattle.player.specs.Play.{first_session, lent_of, counted_of, lending, with_state, session_by, answer_by, session_after, answer_to, Plays};
 
 use crate::limits::WORDS;
@@ -39,69 +40,47 @@ impl Session {
     }
 
     // Another table.
-    fn lend(self, line: &[u8]) -> Session
-        ensures { result ≡ lending self line.now }
+    fn lend(&mut self, line: &[u8])
+        ensures { self.new ≡ lending self.old line.now }
     {
-        let mut words = self.words;
-        let length = table_words(line, &mut words);
-        Session {
-            words,
-            length,
-            ..self
-        }
+        self.length = table_words(line, &mut self.words);
     }
 
     // `start`
-    fn start(self, out: &mut [u8]) -> Answered
-        ensures { Plays (with_state self (start_of (lent_of self)).state) (answer_by command.Start self) out.old out.new result }
+    fn start(&mut self, out: &mut [u8]) -> usize
+        ensures session { self.new ≡ with_state self.old (start_of (lent_of self.old)).state }
+        ensures answer { Written (answer_by command.Start self.old) out.old out.new result }
     {
         let started = State::start(self.lent());
-        Answered {
-            bytes: write_started(started.finding, out),
-            session: Session {
-                state: started.state,
-                ..self
-            },
-        }
+        self.state = started.state;
+        write_started(started.finding, out)
     }
 
     // What an event answered, and the state that it handed back.
-    fn heard(self, answer: Answer, out: &mut [u8]) -> Answered
-        ensures { Plays (with_state self (heard_of answer).state) (line (reply_text (heard_of answer).said)) out.old out.new result }
+    fn heard(&mut self, answer: Answer, out: &mut [u8]) -> usize
+        ensures session { self.new ≡ with_state self.old (heard_of answer).state }
+        ensures answer { Written (line (reply_text (heard_of answer).said)) out.old out.new result }
     {
-        Answered {
-            bytes: write_reply(answer.reply, out),
-            session: Session {
-                state: answer.state,
-                ..self
-            },
-        }
+        self.state = answer.state;
+        write_reply(answer.reply, out)
     }
 
-    // The answer to a command.
-    fn obey(self, command: Command, line: &[u8], out: &mut [u8]) -> Answered
-        ensures { Plays (session_by command self line.now) (answer_by command self) out.old out.new result }
+    // The answer to a command. The session is lent and changed where it lies: with its 7,880 bytes handed on from call to call a command took 1.4 to 3.4 times the time.
+    fn obey(&mut self, command: Command, line: &[u8], out: &mut [u8]) -> usize
+        ensures session { self.new ≡ session_by command self.old line.now }
+        ensures answer { Written (answer_by command self.old) out.old out.new result }
     {
         match command {
-            Command::Table(_) => Answered {
-                session: self.lend(line),
-                bytes: 0,
-            },
-            Command::Check => Answered {
-                session: self,
-                bytes: write_finding(check(self.lent()), out),
-            },
+            Command::Table(_) => {
+                self.lend(line);
+                0
+            }
+            Command::Check => write_finding(check(self.lent()), out),
             Command::Start => self.start(out),
             Command::Release(task, time) => self.heard(self.state.release(task, time), out),
             Command::Step(time) => self.heard(self.state.step(time), out),
-            Command::Verdict => Answered {
-                session: self,
-                bytes: write_verdict(verdict(self.lent()), out),
-            },
-            Command::Show => Answered {
-                session: self,
-                bytes: show(self.state, out),
-            },
+            Command::Verdict => write_verdict(verdict(self.lent()), out),
+            Command::Show => show(self.state, out),
         }
     }
 }
@@ -111,16 +90,14 @@ impl Session {
 pub fn answer(before: Session, line: &[u8], out: &mut [u8]) -> Answered
     ensures { Plays (session_after before line.now) (answer_to before line.now) out.old out.new result }
 {
-    let session = Session {
+    let mut session = Session {
         lines: before.lines.wrapping_add(1),
         ..before
     };
-    match command_of(line) {
+    let bytes = match command_of(line) {
         Ok(Some(command)) => session.obey(command, line, out),
-        Ok(None) => Answered { session, bytes: 0 },
-        Err(fault) => Answered {
-            session,
-            bytes: write_wrong(session.lines, fault, out),
-        },
-    }
+        Ok(None) => 0,
+        Err(fault) => write_wrong(session.lines, fault, out),
+    };
+    Answered { session, bytes }
 }

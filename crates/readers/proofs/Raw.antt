@@ -48,14 +48,14 @@ task_from (suc n) i (suc k) ws starts l =
     task_from n (suc i) k ws starts (le_of_suc-le-suc l) ∙ ap (λ (j : ℕ). task_at ws (get_or starts j 0)) e
 
 -- a task that the map has
-task_at_lem : (ws : List ℕ) (map : Map) (i : ℕ) → i < min map.tasks most_tasks → task_of (table_at ws map) i ≡ task_at ws (get_or map.starts i 0)
+pub task_at_lem : (ws : List ℕ) (map : Map) (i : ℕ) → i < min map.tasks most_tasks → task_of (table_at ws map) i ≡ task_at ws (get_or map.starts i 0)
 unfolding table_at
 task_at_lem ws map i l =
     let e : 0 + i ≡ i = omega arith in
     task_from (min map.tasks most_tasks) 0 i ws map.starts l ∙ ap (λ (j : ℕ). task_at ws (get_or map.starts j 0)) e
 
 -- a task that it has not
-task_none : (ws : List ℕ) (map : Map) (i : ℕ) → min map.tasks most_tasks ≤ i → task_of (table_at ws map) i ≡ no_task
+pub task_none : (ws : List ℕ) (map : Map) (i : ℕ) → min map.tasks most_tasks ≤ i → task_of (table_at ws map) i ≡ no_task
 task_none ws map i l = get_or-eq_default (table_at ws map).tasks no_task (omega (arith, tasks_at_lem ws map))
 
 -- ---- a task by the words from its start on
@@ -125,11 +125,11 @@ plan_step ws k l =
     step_at_lem n k ws at_plan (rw (steps_length n ws at_plan) at l)
 
 -- what a plan's step says as an answer
-abbrev next_said : Step → Next
+abbrev pub next_said : Step → Next
 next_said (lock r l) = Lock r l
 next_said unlock = Unlock
 
-next_there : (plan : List Step) (k : ℕ) → k < length plan → next_of plan k ≡ next_said (get_or plan k unlock)
+pub next_there : (plan : List Step) (k : ℕ) → k < length plan → next_of plan k ≡ next_said (get_or plan k unlock)
 unfolding next_of
 next_there [] k l = absurd (not-suc-le-zero l)
 next_there (lock r len ∷ plan) zero l = refl
@@ -137,7 +137,7 @@ next_there (unlock ∷ plan) zero l = refl
 next_there (lock r len ∷ plan) (suc k) l = next_there plan k (le_of_suc-le-suc l)
 next_there (unlock ∷ plan) (suc k) l = next_there plan k (le_of_suc-le-suc l)
 
-next_at : (ws : List ℕ) (k : ℕ) → k < length (task_in ws).plan → next_of (task_in ws).plan k ≡ next_said (step_in ws k)
+pub next_at : (ws : List ℕ) (k : ℕ) → k < length (task_in ws).plan → next_of (task_in ws).plan k ≡ next_said (step_in ws k)
 next_at ws k l = next_there (task_in ws).plan k l ∙ ap next_said (plan_step ws k l)
 
 -- a step that locks, and one that doesn't

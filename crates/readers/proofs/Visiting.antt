@@ -139,7 +139,7 @@ least_reduce [] = refl
 least_reduce (d ∷ ds) = least_fold d ds
 
 -- a map has no more tasks than a set has room for
-tasks_few : (ws : List ℕ) (map : Map) → tasks_of (table_at ws map) ≤ width
+pub tasks_few : (ws : List ℕ) (map : Map) → tasks_of (table_at ws map) ≤ width
 tasks_few ws map = omega (arith, tasks_at_lem ws map)
 
 pub floor_least : (ws : List ℕ) (map : Map) (r : ℕ)

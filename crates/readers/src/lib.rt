@@ -15,6 +15,7 @@ ghost use Rattle.table.specs.Innermost.{innermost_of};
 ghost use Rattle.table.specs.Map.{next_of};
 ghost use Rattle.readers.specs.Read.{table_in, words_of};
 
+use numbers::lesser;
 use table::limits::{AT_COST, AT_DEADLINE, AT_PERIOD, MOST_TASKS};
 use table::{Map, Next};
 
@@ -30,7 +31,7 @@ impl<'a> Table<'a> {
     pub fn tasks(&self) -> u32
         ensures { result ≡ min self.now.map.tasks most_tasks }
     {
-        self.map.tasks.min(MOST_TASKS)
+        lesser(self.map.tasks, MOST_TASKS)
     }
 
     // T. It has a name of its own, and so have D and C: who asked one reader for the three would name a word's place, and its promise a figure by that place.

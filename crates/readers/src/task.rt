@@ -7,6 +7,7 @@ ghost use Rattle.table.specs.Floor.{uses};
 ghost use Rattle.table.specs.Map.{next_of};
 ghost use Rattle.readers.specs.Read.{task_in, at_step, step_in, locked_by, OpenBefore};
 
+use numbers::lesser;
 use table::Next;
 use table::limits::{AT_LENGTH, AT_PLAN, AT_RESOURCE, AT_STEPS, LOCK, MOST_STEPS, STEP_SIZE};
 
@@ -22,7 +23,7 @@ pub(crate) fn word(words: &[u32], offset: usize) -> u32
 pub(crate) fn steps(words: &[u32]) -> u32
     ensures { result ≡ length (task_in words.now).plan }
 {
-    word(words, AT_STEPS).min(MOST_STEPS)
+    lesser(word(words, AT_STEPS), MOST_STEPS)
 }
 
 // How far behind the start the step at a place of the plan stands.
@@ -73,7 +74,7 @@ fn open_before(words: &[u32], place: u32) -> Option<Open>
     ensures { OpenBefore (task_in words.now).plan place result }
 {
     let mut closing: u32 = 0;
-    for k in (0..place.min(steps(words))).rev() {
+    for k in (0..lesser(place, steps(words))).rev() {
         match locked(words, k) {
             Some(resource) if closing == 0 => return Some(Open { resource, place: k }),
             Some(_) => closing -= 1,

@@ -30,7 +30,7 @@ command_fault line w ws fault h e f = rw (le-ltb most_bytes (length line) h, e, 
 pub ruleset says = (command_long, command_none, command_some, command_fault)
 
 -- The words that a line lends: those behind its first one if it is a table, else none.
-lends_other : (said : Result (Option Command) Fault) (ws : List (List ℕ)) → ((count : ℕ) → said ≡ Ok (Some (Table count)) → ⊥) → numbers_for said ws ≡ []
+pub lends_other : (said : Result (Option Command) Fault) (ws : List (List ℕ)) → ((count : ℕ) → said ≡ Ok (Some (Table count)) → ⊥) → numbers_for said ws ≡ []
 lends_other (Ok (Some (Table count))) ws other = absurd (other count refl)
 lends_other (Ok (Some Check)) ws other = refl
 lends_other (Ok (Some Start)) ws other = refl

@@ -1,6 +1,6 @@
 // A line of bytes to a command, word by word.
 ghost use Rattle.std.specs.Prelude.{◌≡◌};
-ghost use Rattle.script.specs.Words.{split};
+ghost use Rattle.script.specs.Words.{line_words};
 ghost use Rattle.script.specs.Grammar.{most_word, front_of, number_first, time_first, alone, step_command, release_said, numbers_in, table_said, command_said, command_of, table_of};
 ghost use Rattle.text.specs.Room.{Written, Laid};
 
@@ -19,7 +19,7 @@ const SLASH: &[u8] = b"/";
 // A task's number in front.
 #[tactic(auto, unfolding(crate::specs::Grammar::number_first))]
 fn task_first(words: &mut Words<'_>) -> Result<u32, Fault>
-    ensures { front_of result (split words.new.rest.now) ≡ number_first most_word (split words.old.rest.now) }
+    ensures { front_of result (line_words words.new.rest.now) ≡ number_first most_word (line_words words.old.rest.now) }
 {
     small_number(words.next().ok_or(Fault::Missing)?)
 }
@@ -27,7 +27,7 @@ fn task_first(words: &mut Words<'_>) -> Result<u32, Fault>
 // `at T` in front.
 #[tactic(auto, using(crate::proofs::Named::at), unfolding(crate::specs::Grammar::at_first, crate::specs::Grammar::number_first, crate::specs::Grammar::time_first))]
 fn time_first(words: &mut Words<'_>) -> Result<u64, Fault>
-    ensures { front_of result (split words.new.rest.now) ≡ time_first (split words.old.rest.now) }
+    ensures { front_of result (line_words words.new.rest.now) ≡ time_first (line_words words.old.rest.now) }
 {
     match words.next().ok_or(Fault::Missing)? {
         b"at" => number(words.next().ok_or(Fault::Missing)?),
@@ -38,7 +38,7 @@ fn time_first(words: &mut Words<'_>) -> Result<u64, Fault>
 // A command that is whole, if nothing is left over.
 #[tactic(auto, unfolding(crate::specs::Grammar::alone))]
 fn alone(command: Command, mut words: Words<'_>) -> Result<Command, Fault>
-    ensures { result ≡ alone command (split words.entry.rest.now) }
+    ensures { result ≡ alone command (line_words words.entry.rest.now) }
 {
     match words.next() {
         None => Ok(command),
@@ -48,7 +48,7 @@ fn alone(command: Command, mut words: Words<'_>) -> Result<Command, Fault>
 
 // Behind `step`.
 fn step(mut words: Words<'_>) -> Result<Command, Fault>
-    ensures { result ≡ step_command (split words.entry.rest.now) }
+    ensures { result ≡ step_command (line_words words.entry.rest.now) }
 {
     let time = time_first(&mut words)?;
     alone(Command::Step(time), words)
@@ -56,7 +56,7 @@ fn step(mut words: Words<'_>) -> Result<Command, Fault>
 
 // Behind `release`.
 fn release(mut words: Words<'_>) -> Result<Command, Fault>
-    ensures { result ≡ release_said (split words.entry.rest.now) }
+    ensures { result ≡ release_said (line_words words.entry.rest.now) }
 {
     let task = task_first(&mut words)?;
     let time = time_first(&mut words)?;
@@ -66,7 +66,7 @@ fn release(mut words: Words<'_>) -> Result<Command, Fault>
 // Behind `table`: how many words there are.
 #[tactic(auto, using(crate::proofs::Entries::counted, crate::proofs::Split::few_words))]
 fn table(words: Words<'_>) -> Result<Command, Fault>
-    ensures { result ≡ table_said 0 (split words.entry.rest.now) }
+    ensures { result ≡ table_said 0 (line_words words.entry.rest.now) }
 {
     let mut count = 0;
     for word in words {
@@ -81,7 +81,7 @@ fn table(words: Words<'_>) -> Result<Command, Fault>
 // What the words of a command say: its first, and those behind it.
 #[tactic(auto, using(crate::proofs::Named::commands))]
 fn command(first: &[u8], words: Words<'_>) -> Result<Command, Fault>
-    ensures { result ≡ command_said first.now (split words.entry.rest.now) }
+    ensures { result ≡ command_said first.now (line_words words.entry.rest.now) }
 {
     match first {
         b"table" => table(words),
@@ -112,7 +112,7 @@ pub fn command_of(line: &[u8]) -> Result<Option<Command>, Fault>
 
 // A table's words up to the first that is no number, into the room.
 fn put_numbers(words: Words<'_>, room: &mut [u32]) -> usize
-    ensures { Laid (numbers_in (split words.entry.rest.now)) room.old 0 room.new result }
+    ensures { Laid (numbers_in (line_words words.entry.rest.now)) room.old 0 room.new result }
 {
     let mut next = 0;
     for word in words {

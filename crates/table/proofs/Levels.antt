@@ -116,7 +116,7 @@ four_top (four a b c d) (suc (suc zero)) h = refl
 four_top (four a b c d) (suc (suc (suc zero))) h = refl
 four_top (four a b c d) (suc (suc (suc (suc depth)))) h = absurd (omega arith)
 
-sections_top : (depth : ℕ) (sections : List kept.Section) → length sections ≡ most_held → depth ≤ most_held → (depth ≡ 0 → ⊥) →
+pub sections_top : (depth : ℕ) (sections : List kept.Section) → length sections ≡ most_held → depth ≤ most_held → (depth ≡ 0 → ⊥) →
     sections_of depth sections ≡ section_of (get_or sections 0 closed) ∷ sections_of (depth - 1) (unlocked sections)
 sections_top depth sections places room deep =
     let less : suc (depth - 1) ≡ depth = omega arith in

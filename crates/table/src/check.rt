@@ -45,13 +45,16 @@ pub fn check(words: &[u32]) -> Result<(), Finding>
     Ok(())
 }
 
-// The map of any list of words. A refused list has a map of zeros and not None: `map_of` of specs/Map.antt holds it, and `show` is promised by it.
+// The map of a refused list: zeros and not None, for `no_map` of specs/Map.antt holds them, and `show` is promised by it.
+pub const NO_MAP: Map = Map {
+    tasks: 0,
+    resources: 0,
+    starts: [0; TASKS],
+};
+
+// The map of any list of words.
 pub fn map_of(words: &[u32]) -> Map
     ensures { result ≡ map_of words.now }
 {
-    survey(words).unwrap_or(Map {
-        tasks: 0,
-        resources: 0,
-        starts: [0; TASKS],
-    })
+    survey(words).unwrap_or(NO_MAP)
 }

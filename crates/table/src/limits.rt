@@ -8,13 +8,13 @@ pub const MOST_TASKS: u32 = TASKS as u32;
 // "m | 0 | 16"
 pub const RESOURCES: usize = 16;
 
-pub(crate) const MOST_RESOURCES: u32 = RESOURCES as u32;
+pub const MOST_RESOURCES: u32 = RESOURCES as u32;
 
 // "T, D, C, each | 1 | 1,000,000"
-pub(crate) const MOST_TICKS: u32 = 1_000_000;
+pub const MOST_TICKS: u32 = 1_000_000;
 
 // "s | 0 | 16"
-pub(crate) const STEPS: usize = 16;
+pub const STEPS: usize = 16;
 
 pub const MOST_STEPS: u32 = STEPS as u32;
 
@@ -22,16 +22,16 @@ pub const MOST_STEPS: u32 = STEPS as u32;
 pub const MOST_HELD: usize = 4;
 
 // The most levels that are open at once: one in each section, and the outermost.
-pub(crate) const LEVELS: usize = MOST_HELD + 1;
+pub const LEVELS: usize = MOST_HELD + 1;
 
 // "Kind 1 locks the resource", "Kind 2 unlocks the most recent one"
 // Numbers and no enum, for they are what the words say: `steps::Step` and `Next` are the kinds.
 pub const LOCK: u32 = 1;
 
-pub(crate) const UNLOCK: u32 = 2;
+pub const UNLOCK: u32 = 2;
 
 // "Word 0: number of tasks n. Word 1: number of resources m. Then for each task": where the first task starts.
-pub(crate) const AT_TASKS: usize = 2;
+pub const AT_TASKS: usize = 2;
 
 // "for each task in order T, D, C, the number of steps s, and three words a step": how far behind a task's start each word stands, and its plan.
 pub const AT_PERIOD: usize = 0;

@@ -20,8 +20,8 @@ use Rattle.numbers.proofs.Tests.{never, or_false_left, or_false_right}
 use Rattle.table.specs.Limits.{room, most_tasks}
 use Rattle.table.specs.Table.{Table, tasks_of}
 use Rattle.table.specs.Check.{Checked, sound, refused, check_of}
-use Rattle.table.specs.Map.{table_at, map_of}
-use Rattle.table.specs.Said.{refusal_said, finding_said, passes, survey_said, survey_of}
+use Rattle.table.specs.Map.{table_at, no_map, map_of}
+use Rattle.table.specs.Said.{refusal_said, finding_said, passes, Surveyed, survey_said, survey_of}
 use Rattle.table.proofs.Findings.{refusal, survey_passes, survey_map, survey_refuses}
 use Rattle.table.specs.declared.Map.{Map}
 use Rattle.table.specs.declared.Finding.{Finding}
@@ -54,12 +54,16 @@ passed_sound (sound t) e = (t, refl)
 passed_sound (refused number place) e = never (cc)
 
 -- A finding is a refusal.
-not_sound_lem : (finding : Finding) (ws : List ℕ) → survey_said (Err finding) ≡ survey_of ws → not_sound (check_of ws) ≡ true
+pub not_sound_lem : (finding : Finding) (ws : List ℕ) → survey_said (Err finding) ≡ survey_of ws → not_sound (check_of ws) ≡ true
 not_sound_lem finding ws e = go (check_of ws) refl (survey_refuses finding ws e)
   where
     go : (checked : Checked) → check_of ws ≡ checked → finding_said checked ≡ refusal_said finding → not_sound checked ≡ true
     go (refused number place) q f = refl
     go (sound t) q f = let r = refusal finding in never (cc)
+
+-- Its map is zeros.
+pub refused_map : (finding : Finding) (ws : List ℕ) → survey_said (Err finding) ≡ survey_of ws → no_map ≡ map_of ws
+refused_map finding ws e = ap (λ (s : Surveyed). s.map) e
 
 -- No more words are in use than there are.
 pub take_end : (words : List ℕ) (used end : ℕ) → end ≡ min used (length words) → take end words ≡ take used words
@@ -110,7 +114,7 @@ module _ (words : List ℕ) (used end : ℕ) (kept : Kept) (least : end ≡ min 
   walked = take_end words used end least
 
   -- What is said is whether the state is torn, and the map of the words in use.
-  examined : (b : Bool) → torn_of words used kept ≡ b → map ≡ map_of (take end words) →
+  pub examined : (b : Bool) → torn_of words used kept ≡ b → map ≡ map_of (take end words) →
       ◌≡◌ {A = Examined} (record { torn = b; map = map }) (examined_of words used kept)
   examined b e m = ap₂ (λ (x : Bool) (y : Map). record { torn = x; map = y }) (sym e) (m ∙ ap map_of walked)
 

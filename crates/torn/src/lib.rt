@@ -1,4 +1,4 @@
-// TORN (document 01, "When an event is turned away"): "the state's own ranges fail". The test walks a table that passes the check once, and hands on what the walk learns.
+// TORN (document 01, "When an event is turned away"): "the state's own ranges fail". The test walks the table once, and hands on what the walk learns.
 #![tactic(auto)]
 
 mod released; // released.rt: the release numbers
@@ -11,8 +11,10 @@ ghost use Rattle.torn.specs.Torn.{torn_clock, torn_ready, torn_place, torn_last,
 ghost use Rattle.torn.specs.Examined.{tested, examined_of};
 
 use machine::Kept;
+use numbers::lesser;
 use readers::Table;
 use table::Map;
+use table::check::{NO_MAP, survey};
 use table::limits::{END_OF_TIME, MOST_RELEASES, ROOM};
 
 // "its clock is 2^40 or more"
@@ -87,12 +89,10 @@ pub struct Torn {
 pub fn examine(words: &[u32], used: usize, kept: Kept) -> Result<Map, Torn>
     ensures { tested result ≡ examined_of words.now used kept }
 {
-    let words = &words[..used.min(words.len())];
-    match table::check::survey(words) {
+    let words = &words[..lesser(used, words.len())];
+    match survey(words) {
         Ok(map) if too_long(used) || torn_by(&Table { words, map }, &kept) => Err(Torn { map }),
         Ok(map) => Ok(map),
-        Err(_) => Err(Torn {
-            map: table::check::map_of(words),
-        }),
+        Err(_) => Err(Torn { map: NO_MAP }),
     }
 }

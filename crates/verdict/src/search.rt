@@ -9,6 +9,7 @@ ghost use Rattle.verdict.specs.Verdict.{largest as largestOf};
 use crate::sound::Sound;
 use crate::times::Times;
 use crate::work::{demand, largest};
+use numbers::greater;
 use table::Next;
 use table::limits::RESOURCES;
 
@@ -76,7 +77,7 @@ impl<'a> Search<'a> {
         let mut most = 0;
         for (task, times) in self.times.iter().enumerate() {
             if t < times.deadline {
-                most = most.max(self.blocking_plan(task as u32, t));
+                most = greater(most, self.blocking_plan(task as u32, t));
             }
         }
         most
